@@ -206,6 +206,32 @@ mapfile -t five < <(for number in 1 2 3 4 5; do echo "0 c1 ${create/made 1/made 
 timed 'five objects of five' 'legal 6' 5 "${five[@]}" "0 c1 ${create/made 1/refused object-limit}"
 timed 'five objects of six' 'not legal at 6: made 6' 6 "${five[@]}" "0 c1 ${create/made 1/refused object-limit}"
 
+# The history of a trace with the moments that its answers tell, or with another one at a place.
+timed_history() {
+    paste -d '|' "$1" <("$program" trace <"$1") | awk -F '|' -v changed="$2" '
+        BEGIN { print "history 2 clients 1 workers 4 events 65536 objects 4095" }
+        $2 !~ /^(look|full) / {
+            split($1, call, " ")
+            split($2, answer, " ")
+            if (call[2] == "advance" && answer[1] == "advanced") now = answer[2]
+            print now + (++place == changed) " " $1 " -> " $2
+        }
+        END { print "end " place }'
+}
+# What is said of each place with another moment, and what should be.
+each_moment() {
+    local place
+    for ((place = 1; place <= $(timed_history "$1" 0 | tail -n 1 | cut -d ' ' -f 2); place++)); do
+        timed_history "$1" "$place" | "$program" check
+    done
+}
+right_moments() { timed_history "$1" 0 | sed '1d;$d' | awk '{ print "not legal at " NR ": moment " $1 }'; }
+for name in kind-timer kind-wait; do
+    input=$(timed_history "$here/examples/$name.trace" 0)$'\n'
+    try "$name with moments" 0 '~legal *' '' "$program" check
+    try "$name, a wrong moment at each place" 7 "$(right_moments "$here/examples/$name.trace")"$'\n' '' each_moment "$here/examples/$name.trace"
+done
+
 input=$'history 1 clients 0 workers 1 events 16\nend 0\nand more'
 try 'what stands behind the end line is ignored' 0 $'legal 0\n' '' "$program" check
 
@@ -237,17 +263,17 @@ fault check 2 6 "$first_line"$'\nend 01\n'
 fault check 2 6 "$first_line"$'\nend 0'
 fault check 2 1 "$first_line"$'\n0 c1 finish -> ok\n'
 fault check 1 40 "$first_line objects 5"$'\n'
-first_line=${first_line/1/2}
-fault check 1 40 "$first_line"$'\n'
-fault check 1 49 "$first_line objects 0"$'\n'
-fault check 1 53 "$first_line objects 65536"$'\n'
-first_line+=' objects 5'
-fault check 2 1 "$first_line"$'\nc1 finish -> ok\n'
-fault check 2 2 "$first_line"$'\n00 c1 finish -> ok\n'
-fault check 2 19 "$first_line"$'\n9223372036854775808 c1 finish -> ok\n'
-fault check 2 3 "$first_line"$'\n0 end 0\n'
-fault check 3 1 "$first_line"$'\n0 c1 finish -> ok\nc1 finish -> ok\n'
-fault check 3 3 "$first_line"$'\n0 c1 finish -> ok\n0  c1 finish -> ok\n'
+timed_line=${first_line/1/2}
+fault check 1 40 "$timed_line"$'\n'
+fault check 1 49 "$timed_line objects 0"$'\n'
+fault check 1 53 "$timed_line objects 65536"$'\n'
+timed_line+=' objects 5'
+fault check 2 1 "$timed_line"$'\nc1 finish -> ok\n'
+fault check 2 2 "$timed_line"$'\n00 c1 finish -> ok\n'
+fault check 2 19 "$timed_line"$'\n9223372036854775808 c1 finish -> ok\n'
+fault check 2 3 "$timed_line"$'\n0 end 0\n'
+fault check 3 1 "$timed_line"$'\n0 c1 finish -> ok\nc1 finish -> ok\n'
+fault check 3 3 "$timed_line"$'\n0 c1 finish -> ok\n0  c1 finish -> ok\n'
 fault check 2 16 "$first_line"$'\nc1 finish -> ok \n'
 fault check 3 19 "$first_line"$'\nc1 '"$create"$'\nc1 submit 1 -> que'
 # A fault further down comes before an entry with a wrong answer.

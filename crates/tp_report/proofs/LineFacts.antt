@@ -21,9 +21,9 @@ use Rattle.tp_lines.proofs.EntryFacts.{entries_part, entry_short}
 use Rattle.tp_report.specs.declared.headers.Format.{Format}
 use Rattle.tp_report.specs.declared.headers.Format.TheVariants.{One, Two}
 use Rattle.tp_report.specs.declared.lines.Line.{Line}
-use Rattle.tp_report.specs.Histories.{HasEntryLine, HasMoment, IsLine, Lines, line_with}
+use Rattle.tp_report.specs.Histories.{HasEntryLine, HasMoment, IsLine, Lines, front_with}
 use Rattle.tp_report.specs.Readings.{Ended, MomentLines, Moments, read_as}
-use Rattle.tp_report.proofs.Feeds.{IsFree, free_append, free_cons, free_decimal}
+use Rattle.tp_report.proofs.Feeds.{IsFree, free_append, free_decimal}
 use Rattle.tp_report.proofs.FreeLines.{entry_free}
 
 -- the line of an entry in its range
@@ -33,12 +33,15 @@ is_entry entry text h e = subst (λ t. IsEntryLine entry t) (sym e) h
 pub has_entry : (entry : Entry) (text : List ℕ) → IsEntryLine entry text → HasEntryLine entry
 has_entry entry text h = subst (λ t. IsEntryLine entry t) h.split h
 
+abbrev pub line_with : Option ℕ → Entry → List ℕ
+line_with moment entry = front_with moment ++ line_of_entry entry
+
 -- no line feed stands in a line
 free_with : (format : Format) (moment : Option ℕ) (entry : Entry) → HasMoment format moment → HasEntryLine entry → IsFree (line_with moment entry)
 free_with format None entry m h = entry_free entry (line_of_entry entry) h
 free_with One (Some moment) entry m h = absurd m
 free_with Two (Some moment) entry m h =
-    free_append (decimal moment) (32 ∷ line_of_entry entry) (free_decimal moment (omega (arith, m))) (free_cons 32 (line_of_entry entry) refl (entry_free entry (line_of_entry entry) h))
+    free_append (decimal moment ++ 32 ∷ []) (line_of_entry entry) (free_append (decimal moment) (32 ∷ []) (free_decimal moment (omega (arith, m))) refl) (entry_free entry (line_of_entry entry) h)
 
 pub line_free : (format : Format) (line : Line) (text : List ℕ) → IsLine format line text → IsFree text
 line_free format line text h = subst (λ t. IsFree t) (sym h.split) (free_with format line.moment line.entry h.has_moment h.has_entry)
@@ -48,7 +51,7 @@ short_with : (format : Format) (moment : Option ℕ) (entry : Entry) → HasMome
 short_with format None entry m h = omega (arith, entry_short entry (line_of_entry entry) h)
 short_with One (Some moment) entry m h = absurd m
 short_with Two (Some moment) entry m h =
-    omega (arith, length-append (decimal moment) (32 ∷ line_of_entry entry), decimal_short moment (omega (arith, m)), entry_short entry (line_of_entry entry) h)
+    omega (arith, length-append (decimal moment ++ 32 ∷ []) (line_of_entry entry), length-append (decimal moment) (32 ∷ []), decimal_short moment (omega (arith, m)), entry_short entry (line_of_entry entry) h)
 
 pub line_short : (format : Format) (line : Line) (text : List ℕ) → IsLine format line text → length text ≤ 730
 line_short format line text h = omega (arith, ap length h.split, short_with format line.moment line.entry h.has_moment h.has_entry)
@@ -99,7 +102,7 @@ timed_pair : (moment : ℕ) (entry : Entry) (text : List ℕ) → moment ≤ 922
 timed_pair moment entry text m h e = record {
   front = decimal moment;
   back = 32 ∷ line_of_entry entry;
-  split = e;
+  split = e ∙ append_assoc (decimal moment) (32 ∷ []) (line_of_entry entry);
   first = record { at_least = omega arith; at_most = m; split = refl };
   second = record { rest = line_of_entry entry; split = refl; behind = h };
 }
@@ -136,9 +139,13 @@ one_back line text l =
 one_to : (entry : Entry) (text : List ℕ) → Ended EntryLines entry text → Ended (Lines One) (record { moment = None; entry = entry }) text
 one_to entry text l = record { line = l.line; is_line = record { has_moment = tt; has_entry = has_entry entry l.line l.is_line; split = l.is_line.split }; split = l.split }
 
-pub one_read : (text : List ℕ) (entry : Entry) (r : Result ℕ ℕ) → IsRead (Ended EntryLines) text (read_as entry r) → IsRead (Ended (Lines One)) text (read_as (record { moment = None; entry = entry }) r)
-one_read text entry (Ok n) read = read_renamed (Ended EntryLines) (Ended (Lines One)) one_back text entry (record { moment = None; entry = entry }) n (one_to entry) read
-one_read text entry (Err k) stuck = stuck_renamed (Ended EntryLines) (Ended (Lines One)) one_back text k (λ entry t l. (record { moment = None; entry = entry }, one_to entry t l)) stuck
+pub one_read : (text : List ℕ) (entry : Entry) (r : Result ℕ ℕ) → IsRead (Ended EntryLines) text (read_as entry r) → IsRead (Ended (Lines One)) text (read_as (the_line None entry) r)
+one_read text entry (Ok n) read = read_renamed (Ended EntryLines) (Ended (Lines One)) one_back text entry (the_line None entry) n (one_to entry) read
+one_read text entry (Err k) stuck = stuck_renamed (Ended EntryLines) (Ended (Lines One)) one_back text k (λ entry t l. (the_line None entry, one_to entry t l)) stuck
+
+spread : (moment : ℕ) (entry : Entry) → line_with (Some moment) entry ++ 10 ∷ [] ≡ decimal moment ++ 32 ∷ (line_of_entry entry ++ 10 ∷ [])
+spread moment entry =
+    ap (λ l. l ++ 10 ∷ []) (append_assoc (decimal moment) (32 ∷ []) (line_of_entry entry)) ∙ append_assoc (decimal moment) (32 ∷ line_of_entry entry) (10 ∷ [])
 
 two_with : (moment : Option ℕ) (entry : Entry) (text line : List ℕ) → HasMoment Two moment → HasEntryLine entry → line ≡ line_with moment entry → text ≡ line ++ 10 ∷ [] → AnyOf MomentLines text
 two_with None entry text line m h e f = absurd m
@@ -147,7 +154,7 @@ two_with (Some moment) entry text line m h e f = (
   record {
     front = decimal moment;
     back = 32 ∷ (line_of_entry entry ++ 10 ∷ []);
-    split = f ∙ ap (λ l. l ++ 10 ∷ []) e ∙ append_assoc (decimal moment) (32 ∷ line_of_entry entry) (10 ∷ []);
+    split = f ∙ ap (λ l. l ++ 10 ∷ []) e ∙ spread moment entry;
     first = record { at_least = omega arith; at_most = m; split = refl };
     second = record { rest = line_of_entry entry ++ 10 ∷ []; split = refl; behind = record { line = line_of_entry entry; is_line = h; split = refl } };
   },
@@ -160,17 +167,17 @@ two_to : (moment : ℕ) (entry : Entry) (text : List ℕ) → MomentLines (momen
 two_to moment entry text pair =
     let l = pair.second.behind in
     record {
-      line = decimal moment ++ 32 ∷ line_of_entry entry;
+      line = line_with (Some moment) entry;
       is_line = record { has_moment = pair.first.at_most; has_entry = has_entry entry l.line l.is_line; split = refl };
       split = pair.split ∙ ap (λ t. t ++ pair.back) pair.first.split
           ∙ ap (λ t. decimal moment ++ t) (pair.second.split ∙ ap (λ t. 32 ∷ t) (l.split ∙ ap (λ t. t ++ 10 ∷ []) l.is_line.split))
-          ∙ sym (append_assoc (decimal moment) (32 ∷ line_of_entry entry) (10 ∷ []));
+          ∙ sym (spread moment entry);
     }
 
 any_two : (p : ℕ × Entry) (text : List ℕ) → MomentLines p text → AnyOf (Ended (Lines Two)) text
 any_two (moment, entry) text pair = (record { moment = Some moment; entry = entry }, two_to moment entry text pair)
 
-pub two_stuck : (text : List ℕ) (k : ℕ) → IsStuck MomentLines text k → IsStuck (Ended (Lines Two)) text k
+two_stuck : (text : List ℕ) (k : ℕ) → IsStuck MomentLines text k → IsStuck (Ended (Lines Two)) text k
 two_stuck text k stuck = stuck_renamed MomentLines (Ended (Lines Two)) two_back text k any_two stuck
 
 -- behind a moment and its space

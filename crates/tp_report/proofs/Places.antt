@@ -25,12 +25,12 @@ use Rattle.tp_report.specs.declared.headers.Format.{Format}
 use Rattle.tp_report.specs.declared.headers.Format.TheVariants.{One, Two}
 use Rattle.tp_report.specs.declared.headers.Header.{Header}
 use Rattle.tp_report.specs.declared.lines.Line.{Line}
-use Rattle.tp_report.specs.Histories.{AreObjects, HasEntryLine, HasMoment, HeaderLines, IsLine, Lines, NextLines, end_line, line_with, mark_of, objects_text}
+use Rattle.tp_report.specs.Histories.{AreObjects, HasEntryLine, HasMoment, HeaderLines, IsLine, Lines, NextLines, end_line, mark_of, objects_text}
 use Rattle.tp_report.specs.Readings.{Ended, Ends}
 use Rattle.tp_report.proofs.Feeds.{IsFree, free_append, free_decimal}
 use Rattle.tp_report.proofs.FreeLines.{entry_free, end_free}
 use Rattle.tp_report.proofs.HeaderFacts.{headers_part}
-use Rattle.tp_report.proofs.LineFacts.{line_free, line_short, line_unique}
+use Rattle.tp_report.proofs.LineFacts.{line_free, line_short, line_unique, line_with}
 
 -- headers and entries, with a line feed behind them
 mark_free : (format : Format) → IsFree (mark_of format)
@@ -81,7 +81,8 @@ with_apart : (format : Format) (moment : Option ℕ) (entry : Entry) (more rest 
 with_apart format None entry more rest m h e = entry_apart entry (line_of_entry entry) more rest h e
 with_apart One (Some moment) entry more rest m h e = absurd m
 with_apart Two (Some moment) entry more rest m h e =
-    digit_apart moment (omega (arith, m)) (decimal moment) (line_of_entry entry ++ more) rest refl (sym (append_assoc (decimal moment) (32 ∷ line_of_entry entry) more) ∙ e)
+    digit_apart moment (omega (arith, m)) (decimal moment) (line_of_entry entry ++ more) rest refl
+    (sym (ap (λ l. l ++ more) (append_assoc (decimal moment) (32 ∷ []) (line_of_entry entry)) ∙ append_assoc (decimal moment) (32 ∷ line_of_entry entry) more) ∙ e)
 
 pub line_apart : (format : Format) (line : Line) (text more rest : List ℕ) → IsLine format line text → text ++ more ≡ 101 ∷ rest → ⊥
 line_apart format line text more rest h e = with_apart format line.moment line.entry more rest h.has_moment h.has_entry (ap (λ l. l ++ more) (sym h.split) ∙ e)

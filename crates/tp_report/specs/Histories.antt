@@ -58,13 +58,13 @@ HasMoment One (Some moment) = ⊥
 HasMoment Two None = ⊥
 HasMoment Two (Some moment) = moment ≤ 9223372036854775807
 
--- an entry with the moment before it, if it has one
-abbrev pub line_with : Option ℕ → Entry → List ℕ
-line_with None entry = line_of_entry entry
-line_with (Some moment) entry = decimal moment ++ 32 ∷ line_of_entry entry
+-- what stands before an entry: a moment and a space, or nothing
+abbrev pub front_with : Option ℕ → List ℕ
+front_with None = []
+front_with (Some moment) = decimal moment ++ 32 ∷ []
 
 abbrev pub line_of : Line → List ℕ
-line_of line = line_with line.moment line.entry
+line_of line = front_with line.moment ++ line_of_entry line.entry
 
 pub record IsLine (format : Format) (line : Line) (text : List ℕ) : Type 0 where
   pub has_moment : HasMoment format line.moment

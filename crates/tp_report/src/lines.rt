@@ -141,8 +141,8 @@ fn read_line<'a>(
     }
 }
 
-// Reads the line of an entry with its moment before it.
-#[inline(always)]
+// Reads the line of an entry with its moment before it. It stands apart, so that a line without one is read as fast.
+#[inline(never)]
 fn read_moment_line<'a>(
     text: &'a [u8],
     stamp: &mut Stamp<'a>,

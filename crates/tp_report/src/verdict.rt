@@ -43,42 +43,38 @@ pub fn judge<B: Recorded>(
     ensures same { IsSameMachine (B.recording book.old) (B.recording book.new) }
     ensures judged { (lines : List Written) → IsJudgedTo (B.recording book.old) lines now.old verdict.old → IsJudgedTo (B.recording book.new) (lines ++ line.now ∷ []) now.new verdict.new }
 {
-    let Verdict::Legal { len } = *verdict else {
+    let Verdict::Legal { len } = verdict else {
         return;
     };
-    *verdict = judge_next(book, now, len, line, place);
-}
-
-// The same, where the `len` lines before are right.
-fn judge_next<B: Recorded>(
-    book: &mut B,
-    now: &mut u64,
-    len: u32,
-    line: &Line,
-    place: &mut Outcome,
-) -> Verdict
-    requires in_range { IsCallInRange line.now.entry.call }
-    requires few { len < 2 ^ 32 - 1 }
-    ensures same { IsSameMachine (B.recording book.old) (B.recording book.new) }
-    ensures judged { (lines : List Written) → IsJudgedTo (B.recording book.old) lines now.old (Verdict.Legal len) → IsJudgedTo (B.recording book.new) (lines ++ line.now ∷ []) now.new result }
-{
+    let position = *len + 1;
     let entry = &line.entry;
     book.step_into(entry.who, &entry.call, place);
     if !is_answer(place, &entry.answer) {
-        return Verdict::NotLegal {
-            position: len + 1,
-            outcome: *place,
-        };
+        return put_not_legal(verdict, position, place);
     }
     *now = clock_after(*now, entry);
-    if is_moment(line.moment, *now) {
-        Verdict::Legal { len: len + 1 }
-    } else {
-        Verdict::WrongMoment {
-            position: len + 1,
-            now: *now,
-        }
+    if !is_moment(line.moment, *now) {
+        return put_wrong_moment(verdict, position, *now);
     }
+    *len = position;
+}
+
+// Verdicts on wrong lines stand apart, so that what most lines need stays short.
+#[inline(never)]
+fn put_not_legal(verdict: &mut Verdict, position: u32, outcome: &Outcome)
+    ensures { verdict.new ≡ Verdict.NotLegal position outcome.now }
+{
+    *verdict = Verdict::NotLegal {
+        position,
+        outcome: *outcome,
+    };
+}
+
+#[inline(never)]
+fn put_wrong_moment(verdict: &mut Verdict, position: u32, now: u64)
+    ensures { verdict.new ≡ Verdict.WrongMoment position now }
+{
+    *verdict = Verdict::WrongMoment { position, now };
 }
 
 // Whether a line that tells this moment, if any, tells this time.
