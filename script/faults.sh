@@ -111,12 +111,16 @@ name_byte() {
     esac
 }
 
-# Shows the entry of a history whose answer is wrong: its line, what it claims, and what the machine says, and why.
+# Shows the entry of a history whose answer or moment is wrong: its line, what it claims, and what the machine says, and why.
 show_wrong_answer() {
     local line=$(($1 + 1)) text call why
     text=$(line_of_input "$line")
     call=${text%% -> *}
-    why=$(input_again | awk -v wrong="$1" -v said="$2" -f "$home/script/about.awk" -f "$home/script/why.awk")
+    if [[ $2 == 'moment '* ]]; then
+        printf '%s%d:1: %s\n    the history says: moment %s\n    it should be: %s\n' "$origin" "$line" "$text" "${text%% *}" "$2" >&2
+        return
+    fi
+    why=$(history_again | awk -v wrong="$1" -v said="$2" -f "$home/script/about.awk" -f "$home/script/why.awk")
     printf '%s%d:%d: %s\n    the history says: %s\n    the machine says: %s\n' \
         "$origin" "$line" $((${#call} + 5)) "$call" "${text#* -> }" "$why" >&2
 }

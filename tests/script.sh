@@ -191,6 +191,14 @@ input="${end}c1 create work r1 x0 p0 normal short g0 q0 -> made 1"$'\nc1 submit 
 why=$'7:11: c1 end\n    the history says: ended\n    the machine says: look not-yet callback 1 (object 1, w1 runs it)\n'
 try 'why an answer is wrong' 7 $'not legal at 6: look not-yet callback 1\n' "$why" "$tpool" check
 try 'its row is marked' 7 $'~*\n6  c1   end * ended  <- the machine says: look not-yet callback 1 (object 1, w1 runs it)\n' "~*$why" "$tpool" show
+input=$'history 2 clients 1 workers 4 events 65536 objects 65535\n5 c1 advance 5 -> advanced 5 0 0\n0 c1 finish -> ok\nend 2\n'
+moment=$'3:1: 0 c1 finish -> ok\n    the history says: moment 0\n    it should be: moment 5\n'
+try 'a wrong moment' 7 $'not legal at 2: moment 5\n' "$moment" "$tpool" check
+try 'the calls of a history with moments' 0 $'c1 advance 5\nc1 finish\n' '' "$tpool" calls-of
+input=${input/$'\n0 '/$'\n5 '}
+try 'a history with moments is shown' 0 $'1  c1   advance 5  advanced 5 0 0\n2  c1   finish     ok\n' '' "$tpool" show
+input=${input/-> ok/-> refused no-such}
+try 'a wrong answer behind a moment' 7 $'not legal at 2: ok\n' $'3:16: 5 c1 finish\n    the history says: refused no-such\n    the machine says: ok\n' "$tpool" check
 try 'a verdict that can not be written' 4 '' $'tpool: write fault\n' to /dev/full "$tpool" check
 
 # --- Layouts
