@@ -1,15 +1,15 @@
 -- What is told of small histories, by computation alone.
 use Rattle.std.proofs.Common.{◌≡◌, [], ◌∷◌, List, false, refl}
 use Rattle.std.specs.Fmt.{digits}
-use Rattle.std.specs.Prelude.{codes}
+use Rattle.std.specs.Prelude.{codes, Some}
 use Rattle.serde_json.proofs.OnLiterals.{serde_json_on_literals}
 use Rattle.tp_base.specs.declared.answers.Answer.{Answer}
 use Rattle.tp_base.specs.declared.answers.Answer.TheVariants as answer
 use Rattle.tp_base.specs.declared.answers.Entry.{Entry}
-use Rattle.tp_base.specs.declared.answers.Refusal.TheVariants.{WrongKind}
+use Rattle.tp_base.specs.declared.answers.Refusal.TheVariants.{ClockEnd, WrongKind}
 use Rattle.tp_base.specs.declared.answers.TakeResult.TheVariants.{Plain}
 use Rattle.tp_base.specs.declared.calls.Call.{Call}
-use Rattle.tp_base.specs.declared.calls.Call.TheVariants.{Create, SubmitWork, StartIo, IssueIo, CancelIo, Attach, Take}
+use Rattle.tp_base.specs.declared.calls.Call.TheVariants.{Advance, Create, Finish, SubmitWork, StartIo, IssueIo, CancelIo, Attach, Take}
 use Rattle.tp_base.specs.declared.calls.Environ.{Environ}
 use Rattle.tp_base.specs.declared.calls.Kind.TheVariants.{Work, Io}
 use Rattle.tp_base.specs.declared.calls.Priority.TheVariants.{Normal}
@@ -21,9 +21,11 @@ use Rattle.tp_model.specs.Calls.Io.{cancel_io_plan, issue_io_plan, start_io_plan
 use Rattle.tp_model.specs.Calls.Objects.{create_plan}
 use Rattle.tp_model.specs.Calls.Work.{submit_work_plan}
 use Rattle.tp_model.specs.Calls.Workers.{attach_plan, take_plan}
-use Rattle.tp_report.specs.Histories.{history_text}
+use Rattle.tp_report.specs.Histories.{header_line, history_text, line_of}
 use Rattle.tp_report.specs.Json.{json_line}
+use Rattle.tp_report.specs.Moments.{moments}
 use Rattle.tp_report.specs.Summaries.{Totals, text_of_totals, totals_of}
+use Rattle.tp_report.specs.declared.headers.Format.TheVariants.{Two}
 
 limits : Limits
 limits = record { clients = 1; workers = 2; pools = 1; groups = 0; objects = 2; kernels = 0; slots = 8 }
@@ -78,3 +80,23 @@ json = refl
 none : history_text limits 100 [] ≡ codes "history 1 clients 1 workers 2 events 100\nend 0\n"
 unfolding limits digits
 none = refl
+
+-- the first line of format 2, and an entry with its moment
+second : header_line (record { format = Two; clients = 1; workers = 4; events = 16; objects = 5 }) ≡ codes "history 2 clients 1 workers 4 events 16 objects 5"
+unfolding digits
+second = refl
+
+timed : line_of (record { moment = Some 5; entry = entry (Client 1) Finish answer.Done }) ≡ codes "5 c1 finish -> ok"
+unfolding digits entry
+timed = refl
+
+-- an advance that is refused, two that are made, and what follows
+told : moments (
+    entry (Client 1) (Advance 9) (answer.Refused ClockEnd)
+    ∷ entry (Client 1) (Advance 5) (answer.Advanced 5 0 0)
+    ∷ entry (Client 1) (Advance 0) (answer.Advanced 5 0 0)
+    ∷ entry (Client 1) Finish answer.Done
+    ∷ []
+    ) ≡ 0 ∷ 5 ∷ 5 ∷ 5 ∷ []
+unfolding entry
+told = refl

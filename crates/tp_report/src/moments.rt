@@ -1,6 +1,6 @@
 //! Moments: times of the clock, as they stand before the entries of a history.
 
-ghost use Rattle.std.specs.Prelude.{◌≡◌, ◌++◌, IfErr, IfOk, IfSome};
+ghost use Rattle.std.specs.Prelude.{◌≡◌, ◌++◌, IfErr, IfOk};
 ghost use Rattle.line_grammar.specs.Language.{IsStuck};
 ghost use Rattle.tp_report.specs.Moments.{moment_after};
 ghost use Rattle.tp_report.specs.Readings.{IsStamp, MomentLines};
@@ -43,26 +43,9 @@ pub fn read_moment<'a>(text: &'a [u8], stamp: &mut Stamp<'a>) -> Result<&'a [u8]
     ensures split { IfOk result (λ rest. text.now ≡ stamp.new.text.now ++ rest.now) }
     ensures err { IfErr result (λ place. IsStuck MomentLines text.now place) }
 {
-    match behind_front(stamp.text, text) {
+    match behind_word(stamp.text, text) {
         Some(rest) => Ok(rest),
         None => read_other_moment(text, stamp),
-    }
-}
-
-// What stands behind the front, if the text begins with it. Eight bytes are compared at once.
-#[inline(always)]
-fn behind_front<'a>(front: &[u8], text: &'a [u8]) -> Option<&'a [u8]>
-    ensures { IfSome result (λ rest. text.now ≡ front.now ++ rest.now) }
-{
-    match (front, text) {
-        ([a, b, c, d, e, f, g, h, more @ ..], [i, j, k, l, m, n, o, p, rest @ ..]) => {
-            if a == i && b == j && c == k && d == l && e == m && f == n && g == o && h == p {
-                behind_word(more, rest)
-            } else {
-                None
-            }
-        }
-        _ => behind_word(front, text),
     }
 }
 
