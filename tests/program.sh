@@ -90,11 +90,13 @@ try 'standard output is closed' 4 '' $'tpool: write fault\n' without_output "$pr
 try 'standard error is closed' 1 '' '' without_errors "$program"
 
 takes() { yes 'w1 take' | head -c "$1"; }
-too_long() { takes 16777217 | "$program" trace; }
+# The most bytes of an input, which the program and `tpool` have each where they read it.
+longest=$(sed -n 's/^longest_input=//p' "$here/tpool")
+too_long() { takes $((longest + 1)) | "$program" trace; }
 # How often each line comes, where those of one text stand together.
 counted() { uniq -c | awk '{ $1 = $1; print }'; }
 # Each refused call is an entry, for 65,536 of which there is room.
-longest() { takes 16777216 | "$program" trace | counted; }
+longest() { takes "$longest" | "$program" trace | counted; }
 # The client comes behind the bytes where the greatest is looked for first.
 far_client() { { takes 72000 && echo 'c2 finish'; } | "$program" trace | counted; }
 # An armed wait has a slot for its callback, of which there are 8,192, and is armed anew with the same one.
@@ -108,7 +110,7 @@ last_slot() {
 }
 short_of_memory() { takes 16000000 | (ulimit -v 20000 && "$program" trace); }
 try 'an input that is too long' 6 '' $'tpool: input too long\n' too_long
-try 'the longest input' 0 $'65536 refused not-attached\n2031616 full 0 1\n' '' longest
+try 'the longest input' 0 $'65536 refused not-attached\n3080192 full 0 1\n' '' longest
 try 'a client far behind' 0 $'9000 refused not-attached\n1 ok\n' '' far_client
 try 'an armed wait in the last slot' 0 $'queued 0 0\nrefused callback-limit\nqueued 0 0\nqueued 8192 1\nrefused callback-limit\n' '' last_slot
 try 'memory is refused' 5 '' $'tpool: want of memory\n' short_of_memory

@@ -176,7 +176,7 @@ for command in run runs; do
     try "standard input is closed: $command" 3 '' $'tpool: read fault\n' without_input "$tpool" "$command"
     try "no such file: $command" 3 '' "tpool: read fault: there is no file $room/none"$'\n' "$tpool" "$command" "$room/none"
 done
-yes 'group g' | head -c 16777217 >"$room/too_long"
+yes 'group g' | head -c $((longest + 1)) >"$room/too_long"
 try 'a script that is too long' 6 '' $'tpool: input too long\n' on "$room/too_long" "$program" run
 rm "$room/too_long"
 

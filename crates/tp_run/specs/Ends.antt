@@ -1,5 +1,5 @@
 -- What stands between reading and the end of the program.
-use Rattle.std.specs.Prelude.{◌≡◌, ℕ, Bool, true, false, ◌≤◌, ◌↔◌, List, [], length, Option, Some, Result, Ok, Err}
+use Rattle.std.specs.Prelude.{◌≡◌, ℕ, ◌+◌, Bool, true, false, ◌≤◌, ◌↔◌, List, [], length, Option, Some, Result, Ok, Err}
 use Rattle.tp_edge.specs.Given.{with_given, TookFirst}
 use Rattle.tp_edge.specs.Taken.{behind, IsEnded}
 use Rattle.tp_edge.specs.declared.reading.ReadFault.{ReadFault as SourceFault}
@@ -8,6 +8,7 @@ use Rattle.tp_report.specs.declared.faults.TextFault.{TextFault}
 use Rattle.tp_report.specs.declared.faults.TextFault.TheVariants as text
 use Rattle.tp_run.specs.Inputs.{Gives, IsDetermined, IsFaultyAt, IsInGrammar, IsScriptFaultAt, reads}
 use Rattle.tp_run.specs.Runs.{IsWithin}
+use Rattle.tp_run.specs.declared.top.TheConstants.{INPUT_LIMIT}
 use Rattle.tp_run.specs.declared.command.Command.{Command}
 use Rattle.tp_run.specs.declared.status.Ending.{Ending}
 use Rattle.tp_run.specs.declared.status.Ending.TheVariants as ending
@@ -85,8 +86,8 @@ pub record IsTakenTo (command : Command) (left now : Option (List ℕ)) (answer 
   pub taken : List ℕ
   pub took : left ≡ behind taken now
   pub none : reads (Some command) ≡ false → taken ≡ []
-  pub too_long : (answer ≡ Err TooLong) ↔ (length taken ≡ 16777217)
-  pub most : length taken ≤ 16777217
+  pub too_long : (answer ≡ Err TooLong) ↔ (length taken ≡ INPUT_LIMIT + 1)
+  pub most : length taken ≤ INPUT_LIMIT + 1
   pub reply : IsReplyTo command taken now answer
 
 -- what came of the bytes that were taken, and what the sink holds

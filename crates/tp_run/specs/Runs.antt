@@ -1,6 +1,7 @@
 -- How the program ends.
-use Rattle.std.specs.Prelude.{◌≡◌, ℕ, true, ◌≤◌, ◌↔◌, List, length, Option}
+use Rattle.std.specs.Prelude.{◌≡◌, ℕ, ◌+◌, true, ◌≤◌, ◌↔◌, List, length, Option}
 use Rattle.tp_run.specs.Inputs.{Gives, IsFaultyAt, IsInput, reads}
+use Rattle.tp_run.specs.declared.top.TheConstants.{INPUT_LIMIT}
 use Rattle.tp_run.specs.declared.command.Command.{Command}
 use Rattle.tp_run.specs.declared.status.Status.{Status}
 use Rattle.tp_run.specs.declared.status.Status.TheVariants.{Fine, BadLine, WriteFault, TooLong, NotLegal, Exhausted, Stalled}
@@ -37,10 +38,10 @@ IsBehindInput _ = ⊥
 abbrev pub IsReadToEnd : Option Command → Status → Type 0
 IsReadToEnd command status = (reads command ≡ true) × IsBehindInput status
 
--- one byte more than 16,777,216 is too long, and no more than one are taken
+-- one byte more than the limit of input is too long, and no more than one are taken
 pub record IsWithin (status : Status) (taken : List ℕ) : Type 0 where
-  pub too_long : (status ≡ TooLong) ↔ (length taken ≡ 16777217)
-  pub most : length taken ≤ 16777217
+  pub too_long : (status ≡ TooLong) ↔ (length taken ≡ INPUT_LIMIT + 1)
+  pub most : length taken ≤ INPUT_LIMIT + 1
 
 -- the command's input, and its output for that with its ending
 pub record IsAnswered (command : Option Command) (left : Option (List ℕ)) (Q : List ℕ → Ending → Type 0) : Type 0 where

@@ -49,7 +49,7 @@ pub enum Status {
     WriteFault,
     /// Memory was refused. Nothing was written.
     NoMemory,
-    /// The source gave 16,777,217 bytes. Nothing was written.
+    /// The source gave one byte more than `INPUT_LIMIT`. Nothing was written.
     TooLong,
     /// The input, read to its end, is a history that isn't legal, or in which a moment is wrong. The output is whole.
     NotLegal,

@@ -26,7 +26,7 @@ use tp_words::{WordFault, WordList};
 use worker_gate::Gate;
 
 /// The most bytes that an input may have.
-pub const INPUT_LIMIT: usize = 16_777_216;
+pub const INPUT_LIMIT: usize = 25_165_824;
 
 /// Does what the words ask for on a machine, a `B`: reads the source to its end, and then writes to the
 /// sink.
