@@ -1,5 +1,5 @@
 -- What the two halves of a pool's queues come to together.
-use Rattle.std.proofs.Common.{◌≡◌, ℕ, ◌+◌, ◌<◌, ◌≤◌, ◌⊎◌, Bool, true, false, not, ◌&&◌, ◌||◌, ◌==◌, List, [], ◌∷◌, ◌++◌, Option, Some, None, IfSome, inl, inr, filter, find, length, if◌then◌else◌, slice_get, refl, sym, ap, ap₂, ◌∙◌, arith}
+use Rattle.std.proofs.Common.{◌≡◌, ℕ, ◌+◌, ◌<◌, ◌≤◌, ◌⊎◌, Bool, true, false, not, ◌&&◌, ◌||◌, ◌==◌, nat_eq, List, [], ◌∷◌, ◌++◌, Option, Some, None, IfSome, inl, inr, filter, find, length, if◌then◌else◌, slice_get, refl, sym, ap, ap₂, ◌∙◌, arith}
 use Rattle.std.specs.List.{AllByRecursion, list_any}
 use Rattle.std.proofs.lemmas.Bool.Decides.{nat_tests}
 use Rattle.tp_base.specs.declared.calls.Priority.{Priority}
@@ -23,6 +23,15 @@ no_waiting (c ∷ cs) none =
       | true ↦ λ e. absurd cc
       | false ↦ λ e. no_waiting cs e
     ] none
+
+-- it holds of none where none is counted
+pub any_waiting : (cs : List CallbackRow) → nat_eq (length (filter is_waiting_persistent cs)) 0 ≡ not (list_any is_waiting_persistent cs)
+any_waiting [] = refl
+any_waiting (c ∷ cs) =
+    elim (is_waiting_persistent c) as (λ (b : Bool). nat_eq (length (if b then c ∷ filter is_waiting_persistent cs else filter is_waiting_persistent cs)) 0 ≡ not (b || list_any is_waiting_persistent cs)) [
+      | true ↦ grind (arith, nat_tests)
+      | false ↦ any_waiting cs
+    ]
 
 -- where one half is asked alone, where only others are asked for or none is persistent that is pending
 pub when_alone : (all : Bool) (waiting : ℕ) (cs : List CallbackRow) → waiting ≡ length (filter is_waiting_persistent cs) → (all ≡ false) ⊎ ((all ≡ true) × (waiting ≡ 0)) → all ≡ true → length (filter is_waiting_persistent cs) ≡ 0

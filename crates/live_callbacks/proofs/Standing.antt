@@ -1,7 +1,8 @@
 -- What the lists of all families are as a callback comes, changes or leaves.
-use Rattle.std.proofs.Common.{◌≡◌, ℕ, ◌+◌, ◌<◌, ◌≤◌, Bool, true, false, cond, not, ◌==◌, List, [], ◌∷◌, ◌++◌, Some, filter, find, length, map, if◌then◌else◌, refl, sym, ap, subst, ◌∙◌, arith, option_map, eq-eqb, eqb-true, Option}
+use Rattle.std.proofs.Common.{◌≡◌, ℕ, ◌+◌, ◌<◌, ◌≤◌, Bool, true, false, cond, not, ◌==◌, List, [], ◌∷◌, ◌++◌, Some, filter, find, length, map, if◌then◌else◌, refl, sym, ap, ap₂, subst, ◌∙◌, arith, option_map, eq-eqb, eqb-true, Option}
 use Rattle.std.specs.List.{AllByRecursion}
 use Rattle.std.proofs.lemmas.Bool.{ne_eqb}
+use Rattle.std.proofs.lemmas.List.{map-append}
 use Rattle.std.proofs.lemmas.Bool.Decides.{nat_tests}
 use Rattle.tp_base.specs.declared.rows.CallbackRow.{CallbackRow}
 use Rattle.tp_model.specs.Counts.{has_number}
@@ -9,9 +10,9 @@ use Rattle.tp_model.specs.Support.Sound.{IsRising}
 use Rattle.tp_model.proofs.Lists.{all_along}
 use Rattle.live_callbacks.specs.declared.lists.Lists.{Lists}
 use Rattle.live_callbacks.specs.declared.lists.Standing.{Standing}
-use Rattle.live_callbacks.specs.Families.{AreSettled, IsNowhere, IsStanding, StandIn}
+use Rattle.live_callbacks.specs.Families.{AreSettled, AreSettledInGroup, HaveLists, IsNowhere, IsStanding, StandIn}
 use Rattle.live_callbacks.specs.Held.{AreApart, Held, rows_of}
-use Rattle.live_callbacks.specs.Lists.{MaySettle, group_of, line_of, lines, marks, object_of}
+use Rattle.live_callbacks.specs.Lists.{AreListed, IsSettled, Mark, MaySettle, group_of, line_of, lines, mark, marks, object_of}
 use Rattle.live_callbacks.proofs.Parts.{Parts, is_held, marks_rise, one_out, one_put, parts}
 use Rattle.live_callbacks.proofs.Settled.{IsStep, may_settle, settled}
 
@@ -54,6 +55,15 @@ module _ {hs : List Held} {b : CallbackRow} (is : IsAmong hs b) (n : ℕ) (same 
   put_among r =
       ap (map (λ (g : Held). if g.row.number == n then record { key = g.key; row = r } else g)) is.around.is
       ∙ one_put (λ (g : Held). g.row.number == n) (λ (g : Held). record { key = g.key; row = r }) is.around.lo is.held is.around.hi low_fails (eq-eqb is.held.row.number n number) high_fails
+
+  -- what a family has of the rows, where the list and the number of the one that is put are those of the one before
+  pub marks_put : (line : CallbackRow → ℕ) (r : CallbackRow) → r.number ≡ n → line r ≡ line b → marks line (is.around.lo ++ record { key = is.held.key; row = r } ∷ is.around.hi) ≡ marks line hs
+  marks_put line r numbered listed =
+      let new : Held = record { key = is.held.key; row = r } in
+      let as_before : mark line new ≡ mark line is.held = ap₂ (λ m l. record { key = is.held.key; number = m; list = l }) (numbered ∙ sym number) (listed ∙ sym (ap line is.row)) in
+      map-append (mark line) is.around.lo (new ∷ is.around.hi)
+      ∙ ap (λ (m : Mark). marks line is.around.lo ++ m ∷ marks line is.around.hi) as_before
+      ∙ sym (ap (marks line) is.around.is ∙ map-append (mark line) is.around.lo (is.held ∷ is.around.hi))
 
   pub out_among : filter (λ (g : Held). not (g.row.number == n)) hs ≡ is.around.lo ++ is.around.hi
   out_among = ap (filter (λ (g : Held). not (g.row.number == n))) is.around.is ∙ one_out (λ (g : Held). g.row.number == n) is.around.lo is.held is.around.hi low_fails (eq-eqb is.held.row.number n number) high_fails
@@ -99,6 +109,9 @@ module _ (p : CallbackRow → Bool) (next_number : ℕ) (c : CallbackRow) where
 
 -- ---- all families
 
+pub lists_there : {places : ℕ} {hs : List Held} {all : Lists} → StandIn places hs all → HaveLists all
+lists_there k = record { lines_many = k.by_line.many; objects_many = k.by_object.many; groups_many = k.in_group.many }
+
 -- where a key belongs, told for each family alike by its number of lists and by its list of a row
 pub record Belongs (all : Lists) (to : Standing) (at : ℕ → (CallbackRow → ℕ) → ℕ) : Type 0 where
   pub line : to.line ≡ at (lines all.pools all.objects) (line_of all.pools all.objects)
@@ -139,24 +152,39 @@ module _ {places : ℕ} {hs : List Held} {all : Lists} (key : ℕ) (to : Standin
     pub may_group : MaySettle (all.groups + 1) all.by_group key to.group
     may_group = may_settle key to.group k.in_group belongs.group_within (marks_rise (group_of all.groups) 0 next_number hs rising) there k.groups_fit
 
-  pub stand : (ds : List Held) (n : ℕ) (new : Lists) → ((heads : ℕ) (line : CallbackRow → ℕ) → IsStep heads (marks line hs) (marks line ds) key n (at heads line)) → AreSettled all new key n to → StandIn places ds new
-  stand ds n new step done =
-      record {
-        lines_fit = rw (done.pools, done.objects) k.lines_fit;
-        groups_fit = rw done.groups k.groups_fit;
-        by_line =
-            rw (done.pools, done.objects)
-            (settled key to.line k.by_line belongs.line_within (marks (line_of all.pools all.objects) ds) n new.lines
-            (subst (IsStep (lines all.pools all.objects) (marks (line_of all.pools all.objects) hs) (marks (line_of all.pools all.objects) ds) key n) (sym belongs.line) (step (lines all.pools all.objects) (line_of all.pools all.objects)))
-            done.by_line);
-        by_object =
-            rw done.objects
-            (settled key to.object k.by_object belongs.object_within (marks (object_of all.objects) ds) n new.outstanding
-            (subst (IsStep (all.objects + 1) (marks (object_of all.objects) hs) (marks (object_of all.objects) ds) key n) (sym belongs.object) (step (all.objects + 1) (object_of all.objects)))
-            done.by_object);
-        in_group =
-            rw done.groups
-            (settled key to.group k.in_group belongs.group_within (marks (group_of all.groups) ds) n new.by_group
-            (subst (IsStep (all.groups + 1) (marks (group_of all.groups) hs) (marks (group_of all.groups) ds) key n) (sym belongs.group) (step (all.groups + 1) (group_of all.groups)))
-            done.in_group);
-      }
+  module _ (ds : List Held) (n : ℕ) (new : Lists) (step : (heads : ℕ) (line : CallbackRow → ℕ) → IsStep heads (marks line hs) (marks line ds) key n (at heads line)) where
+    line_stands : IsSettled (lines all.pools all.objects) all.lines new.lines key to.line n → AreListed (lines all.pools all.objects) places (marks (line_of all.pools all.objects) ds) new.lines
+    line_stands done =
+        settled key to.line k.by_line belongs.line_within (marks (line_of all.pools all.objects) ds) n new.lines
+        (subst (IsStep (lines all.pools all.objects) (marks (line_of all.pools all.objects) hs) (marks (line_of all.pools all.objects) ds) key n) (sym belongs.line) (step (lines all.pools all.objects) (line_of all.pools all.objects)))
+        done
+
+    object_stands : IsSettled (all.objects + 1) all.outstanding new.outstanding key to.object n → AreListed (all.objects + 1) places (marks (object_of all.objects) ds) new.outstanding
+    object_stands done =
+        settled key to.object k.by_object belongs.object_within (marks (object_of all.objects) ds) n new.outstanding
+        (subst (IsStep (all.objects + 1) (marks (object_of all.objects) hs) (marks (object_of all.objects) ds) key n) (sym belongs.object) (step (all.objects + 1) (object_of all.objects)))
+        done
+
+    pub stand : AreSettled all new key n to → StandIn places ds new
+    stand done =
+        record {
+          lines_fit = rw (done.pools, done.objects) k.lines_fit;
+          groups_fit = rw done.groups k.groups_fit;
+          by_line = rw (done.pools, done.objects) (line_stands done.by_line);
+          by_object = rw done.objects (object_stands done.by_object);
+          in_group =
+              rw done.groups
+              (settled key to.group k.in_group belongs.group_within (marks (group_of all.groups) ds) n new.by_group
+              (subst (IsStep (all.groups + 1) (marks (group_of all.groups) hs) (marks (group_of all.groups) ds) key n) (sym belongs.group) (step (all.groups + 1) (group_of all.groups)))
+              done.in_group);
+        }
+
+    -- where no group changes
+    pub stand_in_group : marks (group_of all.groups) ds ≡ marks (group_of all.groups) hs → AreSettledInGroup all new key n to → StandIn places ds new
+    stand_in_group same done = record {
+      lines_fit = rw (done.pools, done.objects) k.lines_fit;
+      groups_fit = rw done.groups k.groups_fit;
+      by_line = rw (done.pools, done.objects) (line_stands done.by_line);
+      by_object = rw done.objects (object_stands done.by_object);
+      in_group = rw (done.groups, done.in_group, same) k.in_group;
+    }

@@ -1,5 +1,5 @@
 -- The three families of lists together.
-use Rattle.std.specs.Prelude.{◌≡◌, ℕ, ◌+◌, ◌<◌, ◌≤◌, ◌^◌, ◌⊎◌, List}
+use Rattle.std.specs.Prelude.{◌≡◌, ℕ, ◌+◌, ◌<◌, ◌≤◌, ◌^◌, ◌⊎◌, List, length}
 use Rattle.linked_lists.specs.Linked.{owner_of}
 use Rattle.tp_base.specs.declared.rows.CallbackRow.{CallbackRow}
 use Rattle.live_callbacks.specs.declared.lists.Lists.{Lists}
@@ -11,6 +11,12 @@ use Rattle.live_callbacks.specs.Lists.{AreListed, IsSettled, group_of, line_of, 
 pub record HaveRoom (all : Lists) : Type 0 where
   pub lines_fit : lines all.pools all.objects < 2 ^ 32
   pub groups_fit : all.groups + 1 < 2 ^ 32
+
+-- each family has its lists
+pub record HaveLists (all : Lists) : Type 0 where
+  pub lines_many : length all.lines.lists ≡ lines all.pools all.objects
+  pub objects_many : length all.outstanding.lists ≡ all.objects + 1
+  pub groups_many : length all.by_group.lists ≡ all.groups + 1
 
 -- each family has the rows that stand in it, where so many keys have places
 pub record StandIn (places : ℕ) (held : List Held) (all : Lists) : Type 0 where
@@ -34,6 +40,15 @@ pub record IsNowhere (all : Lists) (to : Standing) : Type 0 where
   pub object : to.object ≡ all.objects + 1
   pub group : to.group ≡ all.groups + 1
 
+-- a key is in this line and in the list of this object, and the groups are as they were
+pub record AreSettledInGroup (old new : Lists) (key number : ℕ) (to : Standing) : Type 0 where
+  pub pools : new.pools ≡ old.pools
+  pub objects : new.objects ≡ old.objects
+  pub groups : new.groups ≡ old.groups
+  pub by_line : IsSettled (lines old.pools old.objects) old.lines new.lines key to.line number
+  pub by_object : IsSettled (old.objects + 1) old.outstanding new.outstanding key to.object number
+  pub in_group : new.by_group ≡ old.by_group
+
 -- a key is in these lists
 pub record AreSettled (old new : Lists) (key number : ℕ) (to : Standing) : Type 0 where
   pub pools : new.pools ≡ old.pools
@@ -43,8 +58,7 @@ pub record AreSettled (old new : Lists) (key number : ℕ) (to : Standing) : Typ
   pub by_object : IsSettled (old.objects + 1) old.outstanding new.outstanding key to.object number
   pub in_group : IsSettled (old.groups + 1) old.by_group new.by_group key to.group number
 
--- a key comes to no line, to no other object's list, and stays in its group
+-- a key comes to no line and to no other object's list
 pub record OnlyLeaves (old : Lists) (key : ℕ) (to : Standing) : Type 0 where
   pub line : to.line ≡ lines old.pools old.objects
   pub object : (to.object ≡ old.objects + 1) ⊎ (owner_of old.outstanding (old.objects + 1 + key) ≡ to.object)
-  pub group : owner_of old.by_group (old.groups + 1 + key) ≡ to.group

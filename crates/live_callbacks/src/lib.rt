@@ -26,7 +26,7 @@
 
 #![tactic(auto)]
 
-ghost use Rattle.std.specs.Prelude.{◌≡◌, ◌+◌, ◌^◌, ◌<◌, ◌≤◌, ◌==◌, ◌++◌, ◌∷◌, [], All, IfOk, Some, false, true, filter, find, length, map, nat_lt, not, slice_get, if◌then◌else◌};
+ghost use Rattle.std.specs.Prelude.{◌≡◌, ℕ, ◌+◌, ◌-◌, ◌^◌, ◌<◌, ◌≤◌, ◌==◌, ◌++◌, ◌∷◌, [], All, IfOk, Some, false, true, filter, find, length, map, nat_lt, not, slice_get, if◌then◌else◌};
 ghost use Rattle.std.specs.List.{list_any};
 ghost use Rattle.std.specs.Option.{option_copied};
 ghost use Rattle.tp_model.specs.Calls.Io.{is_expected_of};
@@ -47,7 +47,7 @@ mod lists;
 mod places;
 mod rows;
 
-use lists::{Lists, after_in, first_in, has_list, lent_behind, lines, priority_number};
+use lists::{Lists, after_in, first_in, has_list, lent_behind, priority_number};
 use rows::Rows;
 
 /// The callbacks that live.
@@ -98,9 +98,25 @@ fn operations(callback: &CallbackRow) -> u32
 // One where a callback is persistent and pending, else none.
 #[inline(always)]
 fn waiting_persistent(callback: &CallbackRow) -> u32
-    ensures { result ≡ if is_waiting_persistent callback.now then 1 else 0 }
+    ensures value { result ≡ if is_waiting_persistent callback.now then 1 else 0 }
+    ensures most { result ≤ 1 }
+    ensures others { callback.now.persistent ≡ false → result ≡ 0 }
 {
     u32::from(callback.persistent && matches!(callback.status, Status::Pending))
+}
+
+// Counts a callback anew, of which `was` was counted and `is` is to be: nothing, unless it is persistent.
+#[inline(always)]
+fn recount(count: &mut u32, persistent: bool, was: u32, is: u32)
+    requires was { persistent ≡ false → was ≡ 0 }
+    requires is { persistent ≡ false → is ≡ 0 }
+    requires there { was ≤ count.old }
+    requires fits { count.old - was + is < 2 ^ 32 }
+    ensures { count.new ≡ count.old - was + is }
+{
+    if persistent {
+        *count = *count - was + is;
+    }
 }
 
 // Which of two callbacks is taken before the other.
@@ -223,11 +239,16 @@ impl LiveCallbacks {
         } else {
             None
         };
-        lent_behind(
-            &self.rows,
-            lines(self.lists.pools, self.lists.objects),
-            place,
-        )
+        lent_behind(&self.rows, self.lists.lines.lists(), place)
+    }
+
+    /// Whether no persistent callback is pending, in any pool. Then who takes only others takes all.
+    #[inline(always)]
+    pub fn is_none_persistent(&self) -> bool
+        ensures value { result ≡ not (list_any is_waiting_persistent self.now.rows) }
+        ensures alike { (pool : ℕ) → result ≡ true → queue_among self.now.rows pool true ≡ queue_among self.now.rows pool false }
+    {
+        self.persistent == 0
     }
 
     /// The pending callback of a pool that is taken next, by who takes persistent ones too (`all`) or only others,
@@ -331,11 +352,7 @@ impl LiveCallbacks {
         }
         let _known = self.rows.len();
         let place = first_in(&self.lists.lines, 6 * self.lists.pools + object.0);
-        lent_behind(
-            &self.rows,
-            lines(self.lists.pools, self.lists.objects),
-            place,
-        )
+        lent_behind(&self.rows, self.lists.lines.lists(), place)
         .copied()
     }
 
@@ -375,7 +392,8 @@ impl LiveCallbacks {
         let to = self.lists.stands(&row);
         let key = self.rows.push(row);
         self.operating += operations(&row);
-        self.persistent += waiting_persistent(&row);
+        let is = waiting_persistent(&row);
+        recount(&mut self.persistent, row.persistent, 0, is);
         self.lists.settle(key, row.number, to, to.line, &mut steps);
     }
 
@@ -401,8 +419,10 @@ impl LiveCallbacks {
         let near = self.lists.near(&self.rows, &after, to.line, steps);
         self.rows.replace(key, after);
         self.operating -= operations(before) - operations(&after);
-        self.persistent = self.persistent - waiting_persistent(before) + waiting_persistent(&after);
-        self.lists.settle(key, after.number, to, near, steps);
+        let (was, is) = (waiting_persistent(before), waiting_persistent(&after));
+        recount(&mut self.persistent, before.persistent, was, is);
+        self.lists
+            .settle_in_group(key, after.number, to, near, steps);
     }
 
     /// A callback leaves, of which this is the row as it stands.
@@ -416,7 +436,8 @@ impl LiveCallbacks {
         let to = self.lists.nowhere();
         let key = self.rows.remove(row.number).unwrap();
         self.operating -= operations(row);
-        self.persistent -= waiting_persistent(row);
+        let was = waiting_persistent(row);
+        recount(&mut self.persistent, row.persistent, was, 0);
         self.lists.settle(key, row.number, to, to.line, &mut steps);
     }
 }

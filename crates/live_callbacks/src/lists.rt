@@ -5,7 +5,7 @@ ghost use Rattle.std.specs.Prelude.{◌≡◌, ◌+◌, ◌*◌, ◌<◌, ◌≤
 ghost use Rattle.std.specs.Option.{option_copied};
 ghost use Rattle.linked_lists.specs.Linked.{AreInOrder, IsOf, list_of, owner_of, place_after};
 ghost use Rattle.tp_model.specs.Counts.{is_pending};
-ghost use Rattle.live_callbacks.specs.Families.{AreSettled, HaveRoom, IsNowhere, IsStanding, OnlyLeaves, StandIn};
+ghost use Rattle.live_callbacks.specs.Families.{AreSettled, AreSettledInGroup, HaveLists, HaveRoom, IsNowhere, IsStanding, OnlyLeaves, StandIn};
 ghost use Rattle.live_callbacks.specs.Held.{IsHeldAt, row_behind as row_behind_place};
 ghost use Rattle.live_callbacks.specs.Lists.{IsAtHome, MaySettle, count_queues_of, first_queue_of, first_of_half as first_of_half_by, group_of as group_of_row, has_list as has_group_list, line_of as line_of_row, lines, object_of as object_of_row, priority_number as priority_number_of};
 
@@ -39,15 +39,6 @@ pub(crate) struct Standing {
     pub group: u32,
 }
 
-// Six lines a pool and two an object.
-#[inline(always)]
-pub(crate) fn lines(pools: u32, objects: u32) -> u32
-    requires { lines pools objects < 2 ^ 32 }
-    ensures { result ≡ lines pools objects }
-{
-    6 * pools + 2 * (objects + 1)
-}
-
 // The priority as the queues know it.
 #[inline(always)]
 pub(crate) fn priority_number(priority: Priority) -> u32
@@ -76,11 +67,11 @@ pub(crate) fn has_list(groups: u32, group: GroupId) -> bool
     0 < group.0 && group.0 <= groups
 }
 
-// The line of a callback, by its status.
+// The line of a callback, by its status, or this number of lines.
 #[inline(always)]
-fn line_of(pools: u32, objects: u32, callback: &CallbackRow) -> u32
+fn line_of(pools: u32, objects: u32, none: u32, callback: &CallbackRow) -> u32
     requires home { IsAtHome pools objects callback.now }
-    requires fits { lines pools objects < 2 ^ 32 }
+    requires none { none ≡ lines pools objects }
     ensures value { result ≡ line_of_row pools objects callback.now }
     ensures within { result ≤ lines pools objects }
 {
@@ -91,36 +82,36 @@ fn line_of(pools: u32, objects: u32, callback: &CallbackRow) -> u32
             6 * callback.pool.0
                 + (first_of_half(callback.persistent) + priority_number(callback.priority))
         }
-        Status::Running { .. } | Status::Returned | Status::Cancelled => lines(pools, objects),
+        Status::Running { .. } | Status::Returned | Status::Cancelled => none,
     }
 }
 
-// The object that a callback is outstanding for, by its status, or one that there can't be.
+// The object that a callback is outstanding for, by its status, or this one, which there can't be.
 #[inline(always)]
-fn object_of(objects: u32, callback: &CallbackRow) -> u32
+fn object_of(objects: u32, none: u32, callback: &CallbackRow) -> u32
     requires home { callback.now.object.0 ≤ objects }
-    requires fits { objects + 1 < 2 ^ 32 }
+    requires none { none ≡ objects + 1 }
     ensures value { result ≡ object_of_row objects callback.now }
     ensures within { result ≤ objects + 1 }
 {
     match callback.status {
         Status::Expected | Status::Issued | Status::Pending => callback.object.0,
         Status::Running { associated, .. } if associated => callback.object.0,
-        Status::Running { .. } | Status::Returned | Status::Cancelled => objects + 1,
+        Status::Running { .. } | Status::Returned | Status::Cancelled => none,
     }
 }
 
-// The group of a callback, if that has a list, or one that there can't be.
+// The group of a callback, if that has a list, or this one, which there can't be.
 #[inline(always)]
-fn group_of(groups: u32, callback: &CallbackRow) -> u32
-    requires { groups + 1 < 2 ^ 32 }
+fn group_of(groups: u32, none: u32, callback: &CallbackRow) -> u32
+    requires { none ≡ groups + 1 }
     ensures value { result ≡ group_of_row groups callback.now }
     ensures within { result ≤ groups + 1 }
 {
     if has_list(groups, callback.group) {
         callback.group.0
     } else {
-        groups + 1
+        none
     }
 }
 
@@ -188,26 +179,26 @@ impl Lists {
     #[inline(always)]
     pub fn stands(&self, callback: &CallbackRow) -> Standing
         requires home { IsAtHome self.now.pools self.now.objects callback.now }
-        requires fits { HaveRoom self.now }
+        requires lists { HaveLists self.now }
         ensures { IsStanding self.now callback.now result }
     {
         Standing {
-            line: line_of(self.pools, self.objects, callback),
-            object: object_of(self.objects, callback),
-            group: group_of(self.groups, callback),
+            line: line_of(self.pools, self.objects, self.lines.lists(), callback),
+            object: object_of(self.objects, self.outstanding.lists(), callback),
+            group: group_of(self.groups, self.by_group.lists(), callback),
         }
     }
 
     // The lists of one that isn't there: none.
     #[inline(always)]
     pub fn nowhere(&self) -> Standing
-        requires { HaveRoom self.now }
+        requires { HaveLists self.now }
         ensures { IsNowhere self.now result }
     {
         Standing {
-            line: lines(self.pools, self.objects),
-            object: self.objects + 1,
-            group: self.groups + 1,
+            line: self.lines.lists(),
+            object: self.outstanding.lists(),
+            group: self.by_group.lists(),
         }
     }
 
@@ -223,8 +214,7 @@ impl Lists {
         if self.lines.end_below(line, number, steps).is_some() {
             return line;
         }
-        let heads = lines(self.pools, self.objects);
-        match rows.place_beside(number, &self.lines, line, heads) {
+        match rows.place_beside(number, &self.lines, line, self.lines.lists()) {
             Some(place) => place,
             None => line,
         }
@@ -251,21 +241,42 @@ impl Lists {
     // comes from a place near to where it belongs there, or from the line's own.
     #[inline(always)]
     pub fn settle(&mut self, key: u32, number: u64, to: Standing, near: u32, steps: &mut Steps)
-        requires fits { HaveRoom self.old }
         requires near { IsOf self.old.lines to.line near }
         requires line { MaySettle (lines self.old.pools self.old.objects) self.old.lines key to.line }
         requires object { MaySettle (self.old.objects + 1) self.old.outstanding key to.object }
         requires group { MaySettle (self.old.groups + 1) self.old.by_group key to.group }
         ensures settled { AreSettled self.old self.new key number to }
         ensures counted { steps.old ≤ steps.new }
+    {
+        self.settle_in_group(key, number, to, near, steps);
+        let groups = self.by_group.lists();
+        self.by_group
+            .move_to(to.group, to.group, groups + key, number, steps);
+    }
+
+    // The same of a key that is in the list of its group already, or in none as it belongs.
+    #[inline(always)]
+    pub fn settle_in_group(
+        &mut self,
+        key: u32,
+        number: u64,
+        to: Standing,
+        near: u32,
+        steps: &mut Steps,
+    )
+        requires near { IsOf self.old.lines to.line near }
+        requires line { MaySettle (lines self.old.pools self.old.objects) self.old.lines key to.line }
+        requires object { MaySettle (self.old.objects + 1) self.old.outstanding key to.object }
+        ensures settled { AreSettledInGroup self.old self.new key number to }
+        ensures counted { steps.old ≤ steps.new }
         ensures cost { OnlyLeaves self.old key to → steps.new ≤ steps.old + 2 }
     {
-        let lines = lines(self.pools, self.objects);
+        let lines = self.lines.lists();
         self.lines
             .move_to(to.line, near, lines + key, number, steps);
-        self.outstanding.move_to(to.object, to.object, self.objects + 1 + key, number, steps);
-        self.by_group
-            .move_to(to.group, to.group, self.groups + 1 + key, number, steps);
+        let objects = self.outstanding.lists();
+        self.outstanding
+            .move_to(to.object, to.object, objects + key, number, steps);
     }
 
     // Of the queues of a pool's persistent callbacks, or of its others, the first that isn't empty, or the last.

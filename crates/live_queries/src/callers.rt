@@ -14,7 +14,7 @@ ghost use Rattle.live_queries.specs.AtWork.{busy_at};
 use crate::actors::{Actor, NO_CLIENT, NO_WORKER};
 use live_world::LiveWorld;
 use live_world::slots::slots_of;
-use tp_base::answers::ActionKind;
+use tp_base::answers::{ActionKind, SlotWord};
 use tp_base::ids::{GroupId, ObjectId, PoolId, Who};
 use tp_base::plans::{ActionWords, Busy, Idle};
 use tp_base::rows::{Action, CallbackRow, Slots, Status, WorkerRow};
@@ -154,23 +154,40 @@ pub fn has_asked(world: &LiveWorld, who: Who, kind: ActionKind) -> bool
     }
 }
 
+// Where no action on return was asked for.
+const NONE_ASKED: ActionWords = ActionWords {
+    section: SlotWord::Unasked,
+    mutex: SlotWord::Unasked,
+    semaphore: SlotWord::Unasked,
+    event: SlotWord::Unasked,
+};
+
 /// What becomes of the actions on return that a callback of this status asked for, if the actor returns
-/// from it now.
-pub fn words(world: &LiveWorld, who: Who, status: &Status) -> ActionWords
-    ensures { result ≡ words_of world.now.world who (slots_of_status status.now) }
+/// from it now, and how many callbacks that would make. Walks the waits that it would release.
+#[inline(always)]
+pub fn returned(world: &LiveWorld, who: Who, status: &Status) -> (ActionWords, u32)
+    ensures words { result.0 ≡ words_of world.now.world who (slots_of_status status.now) }
+    ensures count { result.1 ≡ length (returning world.now.world result.0 (slots_of_status status.now)).jobs }
 {
-    world.sources().words(who, &slots_of(*status))
+    match slots_of(*status) {
+        Slots {
+            section: None,
+            mutex: None,
+            semaphore: None,
+            event: None,
+        } => (NONE_ASKED, 0),
+        slots => performed(world, who, &slots),
+    }
 }
 
-/// How many callbacks a return from a callback of this status would make, whose actions on return have
-/// these words. Walks the waits that it would release.
-pub fn count_returned(world: &LiveWorld, who: Who, status: &Status, words: &ActionWords) -> u32
-    requires { words.now ≡ words_of world.now.world who (slots_of_status status.now) }
-    ensures { result ≡ length (returning world.now.world words.now (slots_of_status status.now)).jobs }
+// The same of these actions.
+fn performed(world: &LiveWorld, who: Who, slots: &Slots) -> (ActionWords, u32)
+    ensures words { result.0 ≡ words_of world.now.world who slots.now }
+    ensures count { result.1 ≡ length (returning world.now.world result.0 slots.now).jobs }
 {
-    world
-        .sources()
-        .count_returned(who, &slots_of(*status), words)
+    let words = world.sources().words(who, slots);
+    let count = world.sources().count_returned(who, slots, &words);
+    (words, count)
 }
 
 /// How many clients there are: they have the numbers from 1 on.

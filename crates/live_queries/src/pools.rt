@@ -39,12 +39,13 @@ pub fn has_spare(world: &LiveWorld, pool: PoolId) -> bool
 }
 
 // Whether callbacks wait that a further worker may take, no attached worker is free, and the pool may have another.
+// These are counted last: mostly one of the others tells.
 #[inline(always)]
 fn is_in_need(world: &LiveWorld, pool: PoolId) -> bool
     ensures { result ≡ is_in_need world.now.world pool.0 }
 {
     let tally = world.tally(pool);
-    0 < tally.takeable && tally.idle == 0 && tally.attached < tally.maximum
+    tally.idle == 0 && tally.attached < tally.maximum && 0 < world.takeable(pool, false)
 }
 
 /// Whether the history, which has this room left, has none for a callback of a pool to be run, of which so much is

@@ -114,6 +114,7 @@ impl LiveWorld {
     }
 
     /// How many pending callbacks of a pool a worker of it may take, who is its persistent worker or isn't.
+    #[inline(always)]
     pub fn takeable(&self, pool: PoolId, persistent: bool) -> u32
         ensures { result ≡ takeable_of self.now.world pool.0 persistent }
     {
@@ -131,6 +132,9 @@ impl LiveWorld {
         ensures bound { steps.new ≤ steps.old + 2 }
         ensures fewer { list_any is_waiting_persistent self.now.world.callbacks ≡ false → steps.new ≤ steps.old + 1 }
     {
+        if self.callbacks.is_none_persistent() {
+            return self.callbacks.next(pool, false, steps);
+        }
         self.callbacks
             .next(pool, self.takes_all(pool, persistent), steps)
     }

@@ -30,31 +30,35 @@ pub struct PoolEntry {
 }
 
 impl Tally {
-    // The tally with a worker of its pool more.
-    fn with(self, worker: WorkerRow) -> Tally
-        requires { FitsTally (with_own worker self) }
-        ensures { result ≡ with_own worker self }
+    // One worker of its pool more.
+    #[inline(always)]
+    fn add(&mut self, worker: WorkerRow)
+        requires { FitsTally (with_own worker self.old) }
+        ensures { self.new ≡ with_own worker self.old }
     {
-        Tally {
-            attached: self.attached + 1,
-            running: self.running + u32::from(worker.callback > 0),
-            long: self.long + u32::from(worker.callback > 0 && worker.long),
-            persistent: self.persistent + u32::from(worker.persistent),
-            occupied: self.occupied + u32::from(worker.persistent && worker.callback > 0),
+        let runs = u32::from(worker.callback > 0);
+        self.attached += 1;
+        self.running += runs;
+        self.long += u32::from(worker.callback > 0 && worker.long);
+        if worker.persistent {
+            self.persistent += 1;
+            self.occupied += runs;
         }
     }
 
-    // The tally with one worker of its pool less.
-    fn without(self, worker: WorkerRow) -> Tally
-        requires { IsWithinTally (with_own worker no_workers) self }
-        ensures { self ≡ with_own worker result }
+    // One worker of its pool less.
+    #[inline(always)]
+    fn subtract(&mut self, worker: WorkerRow)
+        requires { IsWithinTally (with_own worker no_workers) self.old }
+        ensures { self.old ≡ with_own worker self.new }
     {
-        Tally {
-            attached: self.attached - 1,
-            running: self.running - u32::from(worker.callback > 0),
-            long: self.long - u32::from(worker.callback > 0 && worker.long),
-            persistent: self.persistent - u32::from(worker.persistent),
-            occupied: self.occupied - u32::from(worker.persistent && worker.callback > 0),
+        let runs = u32::from(worker.callback > 0);
+        self.attached -= 1;
+        self.running -= runs;
+        self.long -= u32::from(worker.callback > 0 && worker.long);
+        if worker.persistent {
+            self.persistent -= 1;
+            self.occupied -= runs;
         }
     }
 }
@@ -113,12 +117,7 @@ fn leave(entries: &mut [PoolEntry], worker: WorkerRow)
     ensures tallies { (p : ℕ) → tally_at entries.old p ≡ with_one p worker (tally_at entries.new p) }
 {
     if let Some(pool) = worker.pool {
-        let place = pool.0 as usize;
-        let entry = entries[place];
-        entries[place] = PoolEntry {
-            tally: entry.tally.without(worker),
-            ..entry
-        };
+        entries[pool.0 as usize].tally.subtract(worker);
     }
 }
 
@@ -130,12 +129,7 @@ fn join(entries: &mut [PoolEntry], worker: WorkerRow)
     ensures tallies { (p : ℕ) → tally_at entries.new p ≡ with_one p worker (tally_at entries.old p) }
 {
     if let Some(pool) = worker.pool {
-        let place = pool.0 as usize;
-        let entry = entries[place];
-        entries[place] = PoolEntry {
-            tally: entry.tally.with(worker),
-            ..entry
-        };
+        entries[pool.0 as usize].tally.add(worker);
     }
 }
 

@@ -20,7 +20,7 @@ use Rattle.live_callbacks.specs.declared.LiveCallbacks.TheInside.{Inside}
 use Rattle.live_callbacks.proofs.Found.{owner_is}
 use Rattle.live_callbacks.proofs.Lines.{queue_most}
 use Rattle.live_callbacks.proofs.Parts.{changed}
-use Rattle.live_callbacks.proofs.Standing.{IsAmong, among, count_fewer, count_most, key_found, key_is, may_group, may_line, may_object, of_row, put_among, rows_put, stand}
+use Rattle.live_callbacks.proofs.Standing.{IsAmong, among, count_fewer, count_most, key_found, key_is, lists_there, marks_put, may_line, may_object, of_row, put_among, rows_put, stand_in_group}
 use Rattle.live_callbacks.proofs.LiveCallbacks.change.Goals as goal
 
 -- the row before is among the rows, and that after is of a pool and an object that there may be
@@ -51,6 +51,9 @@ pub stands-to-requires-clause-home : goal.stands-to-requires-clause-home
 stands-to-requires-clause-home c =
     let m = moving c.self.inside c.args.before.now c.args.after c.self.invariant c.len-known.ensures.apart c.len-known.ensures.within c.requires.goes (rw (← c.self.view_is) at c.requires.found) in
     m.home
+
+pub stands-to-requires-clause-lists : goal.stands-to-requires-clause-lists
+stands-to-requires-clause-lists c = lists_there c.self.invariant.standing
 
 pub unwrap-key-requires : goal.unwrap-key-requires
 unwrap-key-requires c =
@@ -89,14 +92,14 @@ overflow_sub-self-2 c =
     let m = moving i b r k c.len-known.ensures.apart c.len-known.ensures.within c.requires.goes (rw (← c.self.view_is) at c.requires.found) in
     omega (arith, k.counted, c.operations.ensures, c.operations-2.ensures, length_filter_replaced (λ (x : CallbackRow). is_operating x.status) r b 0 k.rising.0 (rows_of i.rows.held) k.rising.1 m.found)
 
-pub overflow_sub-self-3 : goal.overflow_sub-self-3
-overflow_sub-self-3 c =
+pub recount-requires-clause-there : goal.recount-requires-clause-there
+recount-requires-clause-there c =
     let k = c.self.invariant in
     let b = c.args.before.now in
-    omega (arith, k.counted_persistent, c.waiting_persistent.ensures, count_fewer is_waiting_persistent k.rising.0 b 0 (rows_of c.self.inside.rows.held) k.rising.1 (rw (← c.self.view_is) at c.requires.found))
+    omega (arith, k.counted_persistent, c.waiting_persistent-was.ensures.value, count_fewer is_waiting_persistent k.rising.0 b 0 (rows_of c.self.inside.rows.held) k.rising.1 (rw (← c.self.view_is) at c.requires.found))
 
-pub overflow_add-self : goal.overflow_add-self
-overflow_add-self c =
+pub recount-requires-clause-fits : goal.recount-requires-clause-fits
+recount-requires-clause-fits c =
     let i = c.self.inside in
     let k = c.self.invariant in
     let b = c.args.before.now in
@@ -107,8 +110,8 @@ overflow_add-self c =
     omega (
       arith,
       k.counted_persistent,
-      c.waiting_persistent.ensures,
-      c.waiting_persistent-2.ensures,
+      c.waiting_persistent-was.ensures.value,
+      c.waiting_persistent-is.ensures.value,
       after,
       most,
       length_replaced r (rows_of i.rows.held),
@@ -117,23 +120,17 @@ overflow_add-self c =
       c.len-known.ensures.fits,
     )
 
-pub settle-requires-clause-line : goal.settle-requires-clause-line
-settle-requires-clause-line c =
+pub settle_in_group-requires-clause-line : goal.settle_in_group-requires-clause-line
+settle_in_group-requires-clause-line c =
     let m = moving c.self.inside c.args.before.now c.args.after c.self.invariant c.len-known.ensures.apart c.len-known.ensures.within c.requires.goes (rw (← c.self.view_is) at c.requires.found) in
     let same = key_is m.is c.args.after.number c.requires.goes.number c.key_of.result c.unwrap-key.result c.key_of.ensures c.unwrap-key.ensures in
     may_line c.unwrap-key.result c.stands-to.result (λ heads line. line c.args.after) c.self.invariant.standing (of_row c.self.inside.lists c.stands-to.result c.args.after c.stands-to.ensures) c.self.invariant.rising.0 c.self.invariant.rising.1 (omega (arith, same, m.places))
 
-pub settle-requires-clause-object : goal.settle-requires-clause-object
-settle-requires-clause-object c =
+pub settle_in_group-requires-clause-object : goal.settle_in_group-requires-clause-object
+settle_in_group-requires-clause-object c =
     let m = moving c.self.inside c.args.before.now c.args.after c.self.invariant c.len-known.ensures.apart c.len-known.ensures.within c.requires.goes (rw (← c.self.view_is) at c.requires.found) in
     let same = key_is m.is c.args.after.number c.requires.goes.number c.key_of.result c.unwrap-key.result c.key_of.ensures c.unwrap-key.ensures in
     may_object c.unwrap-key.result c.stands-to.result (λ heads line. line c.args.after) c.self.invariant.standing (of_row c.self.inside.lists c.stands-to.result c.args.after c.stands-to.ensures) c.self.invariant.rising.0 c.self.invariant.rising.1 (omega (arith, same, m.places))
-
-pub settle-requires-clause-group : goal.settle-requires-clause-group
-settle-requires-clause-group c =
-    let m = moving c.self.inside c.args.before.now c.args.after c.self.invariant c.len-known.ensures.apart c.len-known.ensures.within c.requires.goes (rw (← c.self.view_is) at c.requires.found) in
-    let same = key_is m.is c.args.after.number c.requires.goes.number c.key_of.result c.unwrap-key.result c.key_of.ensures c.unwrap-key.ensures in
-    may_group c.unwrap-key.result c.stands-to.result (λ heads line. line c.args.after) c.self.invariant.standing (of_row c.self.inside.lists c.stands-to.result c.args.after c.stands-to.ensures) c.self.invariant.rising.0 c.self.invariant.rising.1 (omega (arith, same, m.places))
 
 pub invariant_of-self : goal.invariant_of-self
 invariant_of-self c =
@@ -144,11 +141,12 @@ invariant_of-self c =
     let hs = i.rows.held in
     let m = moving i b r k c.len-known.ensures.apart c.len-known.ensures.within c.requires.goes (rw (← c.self.view_is) at c.requires.found) in
     let same = key_is m.is r.number c.requires.goes.number c.key_of.result c.unwrap-key.result c.key_of.ensures c.unwrap-key.ensures in
-    let done = c.settle.ensures.settled in
+    let done = c.settle_in_group.ensures.settled in
     let number : r.number ≡ m.is.held.row.number = c.requires.goes.number ∙ sym (ap (λ (x : CallbackRow). x.number) m.is.row) in
     let ds = m.is.around.lo ++ record { key = m.is.held.key; row = r } ∷ m.is.around.hi in
     let belongs = of_row i.lists c.stands-to.result r c.stands-to.ensures in
-    let standing = stand c.unwrap-key.result c.stands-to.result (λ heads line. line r) k.standing belongs ds r.number c.settle.new.self (λ heads line. rw same (changed heads line hs m.is.held m.is.around r number)) done in
+    let groups = marks_put m.is r.number c.requires.goes.number (group_of i.lists.groups) r refl (ap (λ (x : GroupId). if has_list i.lists.groups x.0 then x.0 else i.lists.groups + 1) c.requires.goes.group) in
+    let standing = stand_in_group c.unwrap-key.result c.stands-to.result (λ heads line. line r) k.standing belongs ds r.number c.settle_in_group.new.self (λ heads line. rw same (changed heads line hs m.is.held m.is.around r number)) groups done in
     let put = put_among m.is r.number c.requires.goes.number r in
     let rows = rows_put r.number r hs in
     let AtHome : CallbackRow → Type 0 = IsAtHome i.lists.pools i.lists.objects in
@@ -172,8 +170,9 @@ invariant_of-self c =
           (omega (
             arith,
             k.counted_persistent,
-            c.waiting_persistent.ensures,
-            c.waiting_persistent-2.ensures,
+            c.recount.ensures,
+            c.waiting_persistent-was.ensures.value,
+            c.waiting_persistent-is.ensures.value,
             count_fewer is_waiting_persistent k.rising.0 b 0 (rows_of hs) k.rising.1 (rw (← c.self.view_is) at c.requires.found),
             length_filter_replaced is_waiting_persistent r b 0 k.rising.0 (rows_of hs) k.rising.1 m.found,
           ));
@@ -183,7 +182,7 @@ pub returns-clause-moved : goal.returns-clause-moved
 returns-clause-moved c =
     let i = c.self.inside in
     let rows = rows_put c.args.after.number c.args.after i.rows.held in
-    let done = c.settle.ensures.settled in
+    let done = c.settle_in_group.ensures.settled in
     rw (← c.self.view_is, c.replace.ensures, rows, done.pools, done.objects) refl
 
 pub returns-clause-bound : goal.returns-clause-bound
@@ -196,8 +195,8 @@ returns-clause-bound c pending operating =
     let m = moving i b r c.self.invariant c.len-known.ensures.apart c.len-known.ensures.within goes (rw (← c.self.view_is) at c.requires.found) in
     let same = key_is m.is r.number goes.number c.key_of.result c.unwrap-key.result c.key_of.ensures c.unwrap-key.ensures in
     let k = c.self.invariant.standing in
-    let cost : c.settle.new.steps ≤ c.near-near.new.steps + 2 =
-    c.settle.ensures.cost
+    let cost : c.settle_in_group.new.steps ≤ c.near-near.new.steps + 2 =
+    c.settle_in_group.ensures.cost
     (record {
       line = to.line ∙ no_line i.lists.pools i.lists.objects (6 * r.pool.0 + queue_number r.persistent r.priority) r.object.0 r.status pending operating;
       object =
@@ -213,12 +212,6 @@ returns-clause-bound c pending operating =
                 ∙ sym (to.object ∙ ap (λ x. if x then r.object.0 else i.lists.objects + 1) tied))
             | false ↦ λ free. inl (to.object ∙ ap (λ x. if x then r.object.0 else i.lists.objects + 1) free)
           ] refl;
-      group =
-          ap (λ n. owner_of i.lists.by_group (i.lists.groups + 1 + n)) same
-          ∙ owner_is (i.lists.groups + 1) (group_of i.lists.groups) i.rows.held m.is.held m.is.around (group_of i.lists.groups m.is.held.row) refl k.in_group
-          ∙ ap (group_of i.lists.groups) m.is.row
-          ∙ ap (λ (x : GroupId). if has_list i.lists.groups x.0 then x.0 else i.lists.groups + 1) (sym goes.group)
-          ∙ sym to.group;
     })
     in
     omega (arith, cost, c.near-near.ensures.still pending)

@@ -21,7 +21,7 @@ lent_behind-requires c =
     let line = line_of i.lists.pools i.lists.objects in
     let list = 6 * i.lists.pools + c.args.object.0 in
     let first = c.first_in-place.ensures ∙ first_is (lines i.lists.pools i.lists.objects) line list i.rows.held c.self.invariant.standing.by_line (omega (arith, c.if-object-self.false)) in
-    rw c.lines.ensures (place_held (lines i.lists.pools i.lists.objects) i.rows.held c.len-known.ensures.apart (λ x. line x == list) c.first_in-place.result first)
+    rw (c.lists.ensures ∙ c.self.invariant.standing.by_line.many) (place_held (lines i.lists.pools i.lists.objects) i.rows.held c.len-known.ensures.apart (λ x. line x == list) c.first_in-place.result first)
 
 pub returns : goal.returns
 returns c =
@@ -31,6 +31,6 @@ returns c =
     let first = c.first_in-place.ensures ∙ first_is (lines i.lists.pools i.lists.objects) line list i.rows.held c.self.invariant.standing.by_line (omega (arith, c.if-object-self.false)) in
     rw (← c.self.view_is)
     (c.copied.ensures ∙ c.lent_behind.ensures
-    ∙ ap (λ heads. row_behind heads i.rows.held c.first_in-place.result) c.lines.ensures
+    ∙ ap (λ heads. row_behind heads i.rows.held c.first_in-place.result) (c.lists.ensures ∙ c.self.invariant.standing.by_line.many)
     ∙ place_row (lines i.lists.pools i.lists.objects) i.rows.held c.len-known.ensures.apart (λ x. line x == list) c.first_in-place.result first
     ∙ find_same (λ x. line x == list) (is_expected_of c.args.object.0) (rows_of i.rows.held) (expected_agree i.lists.pools i.lists.objects c.args.object.0 c.if-object-self.false (rows_of i.rows.held) c.self.invariant.homes))

@@ -38,7 +38,7 @@ module _ (i : Inside) (k : IsKept i) (apart : AreApart i.rows.held) (pool : ℕ)
 pub lent_behind-requires : goal.lent_behind-requires
 lent_behind-requires c =
     let i = c.self.inside in
-    rw c.lines.ensures
+    rw (c.lists.ensures ∙ c.self.invariant.standing.by_line.many)
     (elim c.if-pool-self.branch [
       | then-pool-self w ↦ (first_leads i c.self.invariant c.len-known.ensures.apart c.args.pool.0 c.args.persistent c.if-pool-self.place w.first_queue-line.result w.if-pool-self.true w.first_queue-line.ensures (w.place-is ∙ w.first-place.ensures.value)).held
       | else-pool-self w ↦ (none_leads i c.self.invariant c.len-known.ensures.apart c.args.pool.0 c.args.persistent c.if-pool-self.place w.if-pool-self.false w.place-is).held
@@ -47,7 +47,7 @@ lent_behind-requires c =
 pub returns-clause-value : goal.returns-clause-value
 returns-clause-value c =
     let i = c.self.inside in
-    let behind = c.lent_behind.ensures ∙ ap (λ heads. row_behind heads i.rows.held c.if-pool-self.place) c.lines.ensures in
+    let behind = c.lent_behind.ensures ∙ ap (λ heads. row_behind heads i.rows.held c.if-pool-self.place) (c.lists.ensures ∙ c.self.invariant.standing.by_line.many) in
     rw (← c.self.view_is)
     (elim c.if-pool-self.branch [
       | then-pool-self w ↦ behind ∙ (first_leads i c.self.invariant c.len-known.ensures.apart c.args.pool.0 c.args.persistent c.if-pool-self.place w.first_queue-line.result w.if-pool-self.true w.first_queue-line.ensures (w.place-is ∙ w.first-place.ensures.value)).next

@@ -12,7 +12,7 @@ use Rattle.live_callbacks.specs.Held.{Held, rows_of}
 use Rattle.live_callbacks.specs.Lists.{IsAtHome}
 use Rattle.live_callbacks.specs.declared.LiveCallbacks.TheInside.{Inside}
 use Rattle.live_callbacks.proofs.Parts.{came}
-use Rattle.live_callbacks.proofs.Standing.{count_more, count_most, may_group, may_line, may_object, of_row, stand}
+use Rattle.live_callbacks.proofs.Standing.{count_more, count_most, lists_there, may_group, may_line, may_object, of_row, stand}
 use Rattle.live_callbacks.proofs.LiveCallbacks.push.Goals as goal
 
 -- a new row in terms of the parts
@@ -43,6 +43,9 @@ rising_below : (low number next_number : ℕ) (hs : List Held) → low ≤ numbe
 rising_below low number next_number [] le rising below = le
 rising_below low number next_number (h ∷ hs) le rising below = (rising.0, rising_below (h.row.number + 1) number next_number hs (omega (arith, below.0)) rising.1 below.1)
 
+pub stands-to-requires-clause-lists : goal.stands-to-requires-clause-lists
+stands-to-requires-clause-lists c = lists_there c.self.invariant.standing
+
 pub push-key-requires-clause-last : goal.push-key-requires-clause-last
 push-key-requires-clause-last c =
     let i = c.self.inside in
@@ -56,12 +59,12 @@ overflow_add-self c =
     let most = count_most (λ (x : CallbackRow). is_operating x.status) (rows_of i.rows.held) in
     omega (arith, new.room, most, c.self.invariant.counted, length-map i.rows.held (λ (h : Held). h.row), c.len-known.ensures.fits, one (is_operating c.args.row.status), c.operations.ensures)
 
-pub overflow_add-self-2 : goal.overflow_add-self-2
-overflow_add-self-2 c =
+pub recount-requires-clause-fits : goal.recount-requires-clause-fits
+recount-requires-clause-fits c =
     let i = c.self.inside in
     let new = coming i c.args.row c.args.self.now c.self.view_is c.requires.room c.requires.pool c.requires.object c.requires.last in
     let most = count_most is_waiting_persistent (rows_of i.rows.held) in
-    omega (arith, new.room, most, c.self.invariant.counted_persistent, length-map i.rows.held (λ (h : Held). h.row), c.len-known.ensures.fits, one (is_waiting_persistent c.args.row), c.waiting_persistent.ensures)
+    omega (arith, new.room, most, c.self.invariant.counted_persistent, length-map i.rows.held (λ (h : Held). h.row), c.len-known.ensures.fits, c.waiting_persistent-is.ensures.most)
 
 pub settle-requires-clause-line : goal.settle-requires-clause-line
 settle-requires-clause-line c =
@@ -92,7 +95,7 @@ invariant_of-self c =
       homes = rw (done.pools, done.objects, rows) (all_append (IsAtHome i.lists.pools i.lists.objects) (rows_of hs) r k.homes new.home);
       standing = standing;
       counted = rw rows (omega (arith, k.counted, c.operations.ensures, count_more (λ (x : CallbackRow). is_operating x.status) r (rows_of hs)));
-      counted_persistent = rw rows (omega (arith, k.counted_persistent, c.waiting_persistent.ensures, count_more is_waiting_persistent r (rows_of hs)));
+      counted_persistent = rw rows (omega (arith, k.counted_persistent, c.recount.ensures, c.waiting_persistent-is.ensures.value, count_more is_waiting_persistent r (rows_of hs)));
     })
 
 pub returns : goal.returns

@@ -8,7 +8,7 @@ use Rattle.live_callbacks.specs.Held.{Held, rows_of}
 use Rattle.live_callbacks.specs.Lists.{IsAtHome, marks}
 use Rattle.live_callbacks.proofs.Parts.{left}
 use Rattle.live_callbacks.proofs.Settled.{IsStep}
-use Rattle.live_callbacks.proofs.Standing.{among, count_fewer, key_found, key_is, may_group, may_line, may_object, of_none, out_among, rows_out, stand}
+use Rattle.live_callbacks.proofs.Standing.{among, count_fewer, key_found, key_is, lists_there, may_group, may_line, may_object, of_none, out_among, rows_out, stand}
 use Rattle.live_callbacks.proofs.LiveCallbacks.remove.Goals as goal
 
 pub unwrap-key-requires : goal.unwrap-key-requires
@@ -24,11 +24,14 @@ overflow_sub-self c =
     let row = c.args.row.now in
     omega (arith, c.self.invariant.counted, c.operations.ensures, count_fewer (λ (x : CallbackRow). is_operating x.status) c.self.invariant.rising.0 row 0 (rows_of i.rows.held) c.self.invariant.rising.1 (rw (← c.self.view_is) at c.requires))
 
-pub overflow_sub-self-2 : goal.overflow_sub-self-2
-overflow_sub-self-2 c =
+pub recount-requires-clause-there : goal.recount-requires-clause-there
+recount-requires-clause-there c =
     let i = c.self.inside in
     let row = c.args.row.now in
-    omega (arith, c.self.invariant.counted_persistent, c.waiting_persistent.ensures, count_fewer is_waiting_persistent c.self.invariant.rising.0 row 0 (rows_of i.rows.held) c.self.invariant.rising.1 (rw (← c.self.view_is) at c.requires))
+    omega (arith, c.self.invariant.counted_persistent, c.waiting_persistent-was.ensures.value, count_fewer is_waiting_persistent c.self.invariant.rising.0 row 0 (rows_of i.rows.held) c.self.invariant.rising.1 (rw (← c.self.view_is) at c.requires))
+
+pub nowhere-to-requires : goal.nowhere-to-requires
+nowhere-to-requires c = lists_there c.self.invariant.standing
 
 pub settle-requires-clause-line : goal.settle-requires-clause-line
 settle-requires-clause-line c =
@@ -83,7 +86,7 @@ invariant_of-self c =
       homes = rw (done.pools, done.objects, rows) (all_filter (IsAtHome i.lists.pools i.lists.objects) others (rows_of hs) k.homes);
       standing = rw out standing;
       counted = rw rows (omega (arith, k.counted, c.operations.ensures, count_fewer (λ (x : CallbackRow). is_operating x.status) k.rising.0 row 0 (rows_of hs) k.rising.1 found));
-      counted_persistent = rw rows (omega (arith, k.counted_persistent, c.waiting_persistent.ensures, count_fewer is_waiting_persistent k.rising.0 row 0 (rows_of hs) k.rising.1 found));
+      counted_persistent = rw rows (omega (arith, k.counted_persistent, c.recount.ensures, c.waiting_persistent-was.ensures.value, count_fewer is_waiting_persistent k.rising.0 row 0 (rows_of hs) k.rising.1 found));
     })
 
 pub returns : goal.returns

@@ -10,4 +10,4 @@ returns-in-Some-clause-rows c =
 pub returns-in-Some-clause-tallies : goal.returns-in-Some-clause-tallies
 returns-in-Some-clause-tallies c =
     let within : c.in-Some.pool.0 < length c.args.entries.now = rw c.in-Some.is at c.requires.within in
-    joined c.args.worker c.in-Some.pool c.in-Some.is _ within _ _ c.with.ensures
+    joined c.args.worker c.in-Some.pool c.in-Some.is _ within _ _ c.add.ensures
