@@ -24,7 +24,7 @@ mod pools;
 mod stalls;
 
 pub use callers::{
-    AtWork, actor, at_work, busy, count_returned, has_asked, idle, runs_in_group, runs_own, words,
+    AtWork, actor, at_work, busy, has_asked, idle, returned, runs_in_group, runs_own,
 };
 pub use over::{is_over, left_after};
 pub use places::{

@@ -11,7 +11,7 @@ ghost use Rattle.tp_model.specs.Calls.Workers.{idle_refusals, attach_plan, detac
 use crate::decisions::{Decision, accept};
 use crate::refusals::first_of;
 use crate::triggers::first_number;
-use live_queries::{at_work, count_returned, idle, may_leave, pool_to_join};
+use live_queries::{at_work, idle, may_leave, pool_to_join, returned};
 use live_world::LiveWorld;
 use steps::Steps;
 use tp_base::answers::{Answer, Look, Outcome, Refusal};
@@ -152,8 +152,7 @@ pub fn return_callback(
     let Some(by) = at_work(world, who) else {
         return Decision::Refused(Refusal::NotRunning);
     };
-    let words = live_queries::words(world, who, &by.callback.status);
-    let count = count_returned(world, who, &by.callback.status, &words);
+    let (words, count) = returned(world, who, &by.callback.status);
     let first = world.next_number();
     accept(
         change,
