@@ -352,8 +352,7 @@ impl LiveCallbacks {
         }
         let _known = self.rows.len();
         let place = first_in(&self.lists.lines, 6 * self.lists.pools + object.0);
-        lent_behind(&self.rows, self.lists.lines.lists(), place)
-        .copied()
+        lent_behind(&self.rows, self.lists.lines.lists(), place).copied()
     }
 
     /// Whether a callback of an object expects an operation or has it under way.

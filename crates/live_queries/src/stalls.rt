@@ -75,7 +75,7 @@ fn is_pool_blocked(world: &LiveWorld, pool: PoolId, room: u64, free: bool) -> bo
     let tally = world.tally(pool);
     tally.pending == 0
         || tally.maximum <= tally.running
-        || (tally.takeable == 0 && tally.occupied)
+        || (tally.occupied && world.takeable(pool, false) == 0)
         || lacks_room(&tally, room, free)
 }
 

@@ -1,5 +1,5 @@
 -- What is counted of a pool is what the world counts.
-use Rattle.std.proofs.Common.{◌≡◌, ℕ, suc, zero, ◌+◌, ◌-◌, ◌<◌, ◌≤◌, Bool, true, false, cond, not, ◌&&◌, ◌||◌, ◌==◌, List, [], ◌∷◌, length, nat_lt, slice_get, Option, Some, None, refl, sym, ap, ap₂, ◌∙◌, subst, arith, filter, option_map, is_none, IfSome, ne_eqb, lt-ltb}
+use Rattle.std.proofs.Common.{◌≡◌, ℕ, suc, zero, ◌+◌, ◌-◌, ◌<◌, ◌≤◌, Bool, true, false, cond, not, ◌&&◌, ◌==◌, List, [], ◌∷◌, length, nat_lt, slice_get, Option, Some, None, refl, sym, ap, ap₂, ◌∙◌, subst, arith, filter, option_map, is_none, IfSome, ne_eqb, lt-ltb}
 use Rattle.std.specs.List.{AllByRecursion}
 use Rattle.std.specs.Option.{option_map_or}
 use Rattle.std.proofs.lemmas.List.{length-map}
@@ -11,18 +11,17 @@ use Rattle.pool_rows.specs.Workers.{is_attached_to as is_attached_kept, is_occup
 use Rattle.pool_rows.specs.declared.Counts.{Counts}
 use Rattle.pool_rows.specs.declared.WorkerRow as kept
 use Rattle.tp_model.specs.World.{World}
-use Rattle.tp_model.specs.Counts.{attached, has_persistent, idle, is_attached_to, is_idle_in, is_open_to, is_pending, is_pending_in, pending, running, running_long}
+use Rattle.tp_model.specs.Counts.{attached, has_persistent, idle, is_attached_to, is_idle_in, is_pending, is_pending_in, pending, running, running_long}
 use Rattle.tp_model.proofs.Lists.{all_along}
 use Rattle.tp_model.proofs.Refusals.{and_false}
 use Rattle.live_world.specs.declared.LiveWorld.TheInside.{Inside}
 use Rattle.live_world.specs.declared.pools.Tally.{Tally}
-use Rattle.live_callbacks.specs.Callbacks.{is_open}
 use Rattle.live_world.specs.Tally.{tally_of, tally_shown}
 use Rattle.live_world.specs.Parts.{shown_worker}
 use Rattle.live_world.specs.View.{shown, IsLiveWorld}
 use Rattle.live_world.specs.Invariant.{IsHome}
 use Rattle.live_world.proofs.Lists.{filter_map, filter_none, past_end}
-use Rattle.live_world.proofs.Takeable.{lacks_persistent, occupied_shown, takeable_shown}
+use Rattle.live_world.proofs.Takeable.{lacks_persistent, occupied_shown}
 
 -- ---- workers
 
@@ -74,11 +73,6 @@ none_pending : (pools pool : ℕ) (cs : List CallbackRow) → pools ≤ pool →
 none_pending pools pool cs past homes =
     filter_none (is_pending_in pool) cs (all_along (λ (c : CallbackRow). c.pool.0 < pools) (λ c. is_pending_in pool c ≡ false) (not_pending pools pool past) cs homes)
 
-none_takeable : (w : World) (pools pool : ℕ) (cs : List CallbackRow) → pools ≤ pool → AllByRecursion (λ (c : CallbackRow). c.pool.0 < pools) cs → filter (is_open_to w pool false) cs ≡ []
-none_takeable w pools pool cs past homes =
-    filter_none (is_open_to w pool false) cs (all_along (λ (c : CallbackRow). c.pool.0 < pools) (λ c. is_open_to w pool false c ≡ false)
-    (λ c lt. ap (λ b. b && (not c.persistent || false || not (has_persistent w pool))) (not_pending pools pool past c lt)) cs homes)
-
 -- ---- the tally
 
 abbrev counts_at : Inside → ℕ → PoolRow → Counts
@@ -94,21 +88,21 @@ counts_at i pool row = record {
 }
 
 abbrev pub no_tally : Tally
-no_tally = record { minimum = 0; maximum = 0; pending = 0; takeable = 0; running = 0; attached = 0; idle = 0; available = 0; occupied = false }
+no_tally = record { minimum = 0; maximum = 0; pending = 0; running = 0; attached = 0; idle = 0; available = 0; occupied = false }
 
-same_tally : (m m' x x' p p' t t' r r' a a' i i' v v' : ℕ) (o o' : Bool) → m ≡ m' → x ≡ x' → p ≡ p' → t ≡ t' → r ≡ r' → a ≡ a' → i ≡ i' → v ≡ v' → o ≡ o'
+same_tally : (m m' x x' p p' r r' a a' i i' v v' : ℕ) (o o' : Bool) → m ≡ m' → x ≡ x' → p ≡ p' → r ≡ r' → a ≡ a' → i ≡ i' → v ≡ v' → o ≡ o'
     → ◌≡◌ {A = Tally}
-    (record { minimum = m; maximum = x; pending = p; takeable = t; running = r; attached = a; idle = i; available = v; occupied = o })
-    (record { minimum = m'; maximum = x'; pending = p'; takeable = t'; running = r'; attached = a'; idle = i'; available = v'; occupied = o' })
-same_tally m m' x x' p p' t t' r r' a a' i i' v v' o o' em ex ep et er ea ei ev eo = cc
+    (record { minimum = m; maximum = x; pending = p; running = r; attached = a; idle = i; available = v; occupied = o })
+    (record { minimum = m'; maximum = x'; pending = p'; running = r'; attached = a'; idle = i'; available = v'; occupied = o' })
+same_tally m m' x x' p p' r r' a a' i i' v v' o o' em ex ep er ea ei ev eo = cc
 
-pub is_tally : (i : Inside) (pool : ℕ) (counts : Counts) → IsLiveWorld i → counts_of pool i.pools ≡ Some counts → tally_shown (pending (shown i).world pool) (length (filter (is_open pool (counts.persistent == 0)) i.callbacks.rows)) counts ≡ tally_of (shown i).world pool
+pub is_tally : (i : Inside) (pool : ℕ) (counts : Counts) → IsLiveWorld i → counts_of pool i.pools ≡ Some counts → tally_shown (pending (shown i).world pool) counts ≡ tally_of (shown i).world pool
 is_tally i pool counts k is = known (slice_get i.pools.pools pool) refl is
   where
     some_same : (x y : Counts) → Some x ≡ Some y → x ≡ y
     some_same x y e = cc
 
-    known : (o : Option PoolRow) → slice_get i.pools.pools pool ≡ o → counts_of pool i.pools ≡ Some counts → tally_shown (pending (shown i).world pool) (length (filter (is_open pool (counts.persistent == 0)) i.callbacks.rows)) counts ≡ tally_of (shown i).world pool
+    known : (o : Option PoolRow) → slice_get i.pools.pools pool ≡ o → counts_of pool i.pools ≡ Some counts → tally_shown (pending (shown i).world pool) counts ≡ tally_of (shown i).world pool
     known None e h = let none : None ≡ Some counts = sym (ap (option_map (counts_at i pool)) e) ∙ h in absurd cc
     known (Some row) e h =
         let same : counts_at i pool row ≡ counts = some_same (counts_at i pool row) counts (sym (ap (option_map (counts_at i pool)) e) ∙ h) in
@@ -116,12 +110,10 @@ is_tally i pool counts k is = known (slice_get i.pools.pools pool) refl is
         let ran : counts.running ≡ running w pool = ap (λ (x : Counts). x.running) (sym same) ∙ sym (k.tallied.run pool) in
         let long : counts.long ≡ running_long w pool = ap (λ (x : Counts). x.long) (sym same) ∙ sym (k.tallied.run_long pool) in
         let joined : counts.attached ≡ attached w pool = ap (λ (x : Counts). x.attached) (sym same) ∙ sym (attached_shown i pool) in
-        let marked : (counts.persistent == 0) ≡ not (has_persistent w pool) = ap (λ (x : Counts). x.persistent == 0) (sym same) ∙ lacks_persistent w i.pools.workers refl pool in
-        same_tally _ _ _ _ _ _ _ _ _ _ _ _ _ _ _ _ _ _
+        same_tally _ _ _ _ _ _ _ _ _ _ _ _ _ _ _ _
         (ap (λ (x : Counts). cond x.closed 0 x.minimum) (sym same) ∙ sym (ap (λ o. option_map_or (λ (p : PoolRow). cond p.closed 0 p.minimum) o 0) e))
         (ap (λ (x : Counts). x.maximum) (sym same) ∙ sym (ap (λ o. option_map_or (λ (p : PoolRow). p.maximum) o 0) e))
         refl
-        (takeable_shown w pool false (counts.persistent == 0) marked i.callbacks.rows refl)
         ran joined
         (ap₂ (λ m n. m - n) (ap (λ (x : Counts). x.attached) (sym same)) (ap (λ (x : Counts). x.running) (sym same)) ∙ sym (less _ _ _ (idle_shown i pool)))
         (ap₂ (λ m n. m - n) joined long)
@@ -141,11 +133,10 @@ is_no_tally i pool k is = known (slice_get i.pools.pools pool) refl is
         let past : length i.pools.pools ≤ pool = past_end i.pools.pools pool e in
         let none_joined : attached w pool ≡ 0 = attached_shown i pool ∙ ap length (attached_nowhere (length i.pools.pools) pool i.pools.workers past k.sized.homes) in
         let none_run : length (filter (runs_in pool) i.pools.workers) ≡ 0 = omega (arith, idle_shown i pool, attached_shown i pool, none_joined) in
-        same_tally _ _ _ _ _ _ _ _ _ _ _ _ _ _ _ _ _ _
+        same_tally _ _ _ _ _ _ _ _ _ _ _ _ _ _ _ _
         (sym (ap (λ o. option_map_or (λ (p : PoolRow). cond p.closed 0 p.minimum) o 0) e))
         (sym (ap (λ o. option_map_or (λ (p : PoolRow). p.maximum) o 0) e))
         (sym (ap length (none_pending (length i.pools.pools) pool i.callbacks.rows past k.sound.callback_pools)))
-        (sym (ap length (none_takeable w (length i.pools.pools) pool i.callbacks.rows past k.sound.callback_pools)))
         (sym (k.tallied.run pool ∙ none_run))
         (sym none_joined)
         (omega (arith, idle_shown i pool, attached_shown i pool, none_joined))

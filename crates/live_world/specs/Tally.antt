@@ -1,10 +1,10 @@
 -- What is counted of a pool, whether it was made or not.
-use Rattle.std.specs.Prelude.{ℕ, Bool, ◌-◌, ◌&&◌, nat_lt, false, is_some, if◌then◌else◌}
+use Rattle.std.specs.Prelude.{ℕ, Bool, ◌-◌, ◌&&◌, nat_lt, is_some, if◌then◌else◌}
 use Rattle.std.specs.List.{list_any}
 use Rattle.tp_base.specs.declared.rows.WorkerRow.{WorkerRow}
 use Rattle.pool_rows.specs.declared.Counts.{Counts}
 use Rattle.tp_model.specs.World.{World}
-use Rattle.tp_model.specs.Counts.{attached, available, idle, is_persistent_in, maximum, minimum, pending, running, takeable}
+use Rattle.tp_model.specs.Counts.{attached, available, idle, is_persistent_in, maximum, minimum, pending, running}
 use Rattle.live_world.specs.declared.pools.Tally.{Tally}
 
 -- the pool's persistent worker runs a callback
@@ -16,7 +16,6 @@ tally_of w pool = record {
   minimum = minimum w pool;
   maximum = maximum w pool;
   pending = pending w pool;
-  takeable = takeable w pool false;
   running = running w pool;
   attached = attached w pool;
   idle = idle w pool;
@@ -24,13 +23,12 @@ tally_of w pool = record {
   occupied = is_occupied w pool;
 }
 
--- of a pool that was made, where so many callbacks wait, and so many of them for any worker
-abbrev pub tally_shown : ℕ → ℕ → Counts → Tally
-tally_shown waiting takeable counts = record {
+-- of a pool that was made, where so many callbacks wait
+abbrev pub tally_shown : ℕ → Counts → Tally
+tally_shown waiting counts = record {
   minimum = if counts.closed then 0 else counts.minimum;
   maximum = counts.maximum;
   pending = waiting;
-  takeable = takeable;
   running = counts.running;
   attached = counts.attached;
   idle = counts.attached - counts.running;

@@ -1,9 +1,9 @@
 //! Pools: what is counted of each; a pool is made or changed, and a worker joins one or leaves it.
 
-ghost use Rattle.std.specs.Prelude.{◌≡◌, ◌+◌, ◌≤◌, ◌||◌, ◌==◌, false, filter, length, not, slice_get, true};
+ghost use Rattle.std.specs.Prelude.{◌≡◌, ◌+◌, ◌≤◌, ◌||◌, false, length, not, slice_get};
 ghost use Rattle.std.specs.List.{list_any};
 ghost use Rattle.std.specs.Option.{option_copied};
-ghost use Rattle.live_callbacks.specs.Callbacks.{is_open, is_waiting_persistent};
+ghost use Rattle.live_callbacks.specs.Callbacks.{is_waiting_persistent};
 ghost use Rattle.tp_model.specs.Counts.{has_persistent, next as next_of, takeable as takeable_of};
 ghost use Rattle.tp_model.specs.Stalled.{is_free};
 ghost use Rattle.tp_model.specs.Support.Allowed.{IsAllowed};
@@ -11,7 +11,6 @@ ghost use Rattle.live_world.specs.Live.{moved};
 ghost use Rattle.live_world.specs.Tally.{tally_shown as tally_shown_of};
 
 use crate::LiveWorld;
-use live_callbacks::LiveCallbacks;
 use pool_rows::Counts;
 use steps::Steps;
 use tp_base::ids::PoolId;
@@ -26,8 +25,6 @@ pub struct Tally {
     /// How many of its callbacks may run at once.
     pub maximum: u32,
     pub pending: u32,
-    /// How many of those that are pending a further worker could take.
-    pub takeable: u32,
     pub running: u32,
     pub attached: u32,
     /// The attached workers that run nothing.
@@ -42,7 +39,6 @@ const NOT_MADE: Tally = Tally {
     minimum: 0,
     maximum: 0,
     pending: 0,
-    takeable: 0,
     running: 0,
     attached: 0,
     idle: 0,
@@ -50,33 +46,19 @@ const NOT_MADE: Tally = Tally {
     occupied: false,
 };
 
-// What is counted of a pool that was made, where so many callbacks wait, and so many of them for any worker.
-fn tally_shown(waiting: u32, takeable: u32, counts: Counts) -> Tally
-    ensures { result ≡ tally_shown_of waiting takeable counts }
+// What is counted of a pool that was made, where so many callbacks wait.
+fn tally_shown(waiting: u32, counts: Counts) -> Tally
+    ensures { result ≡ tally_shown_of waiting counts }
 {
     Tally {
         minimum: if counts.closed { 0 } else { counts.minimum },
         maximum: counts.maximum,
         pending: waiting,
-        takeable,
         running: counts.running,
         attached: counts.attached,
         idle: counts.attached.saturating_sub(counts.running),
         available: counts.attached.saturating_sub(counts.long),
         occupied: 0 < counts.occupied,
-    }
-}
-
-// How many of so many pending callbacks of a pool a further worker could take: all, unless the pool has a
-// persistent worker.
-fn open_to_others(callbacks: &LiveCallbacks, pool: PoolId, pending: u32, counts: Counts) -> u32
-    requires { pending ≡ length (filter (is_open pool.0 true) callbacks.now.rows) }
-    ensures { result ≡ length (filter (is_open pool.0 (counts.persistent == 0)) callbacks.now.rows) }
-{
-    if counts.persistent == 0 {
-        pending
-    } else {
-        callbacks.takeable(pool, false)
     }
 }
 
@@ -90,11 +72,7 @@ impl LiveWorld {
     {
         match self.pools.counts(pool) {
             None => NOT_MADE,
-            Some(counts) => {
-                let waiting = self.callbacks.pending(pool);
-                let takeable = open_to_others(&self.callbacks, pool, waiting, counts);
-                tally_shown(waiting, takeable, counts)
-            }
+            Some(counts) => tally_shown(self.callbacks.pending(pool), counts),
         }
     }
 

@@ -1,17 +1,16 @@
 -- How many workers are free, run a callback, or are held by a pool, which is told by the tallies.
 use Rattle.std.proofs.Common.{◌≡◌, ℕ, ◌+◌, ◌-◌, ◌<◌, ◌≤◌, ◌^◌, ◌==◌, ◌&&◌, ◌||◌, Bool, true, false, not, cond, List, [], ◌∷◌, map, length, get_or, Option, None, Some, inl, inr, suc, zero, arith, refl, ap, sym, ◌∙◌, eq-eqb, ne_eqb, lt-ltb, le-ltb, ◌≢◌}
-use Rattle.std.specs.Prelude.{filter, nat_lt, slice_get}
+use Rattle.std.specs.Prelude.{filter, nat_lt}
 use Rattle.std.specs.Int.{from_bool}
 use Rattle.std.specs.List.{list_any}
 use Rattle.std.specs.Option.{option_map_or}
 use Rattle.std.proofs.lemmas.Bool.{cases_eq, cases_lt}
-use Rattle.std.proofs.lemmas.Bool.Decides.{nat_tests}
 use Rattle.tp_base.specs.declared.ids.PoolId.{PoolId}
 use Rattle.tp_base.specs.declared.rows.PoolRow.{PoolRow}
 use Rattle.pool_rows.specs.declared.WorkerRow.{WorkerRow}
 use Rattle.pool_rows.specs.declared.tallies.PoolEntry.{PoolEntry}
 use Rattle.pool_rows.specs.Free.{is_closed, is_free, is_held}
-use Rattle.pool_rows.specs.Tallies.{AreTallied, tally_at, tally_of}
+use Rattle.pool_rows.specs.Tallies.{AreTallied, tally_of}
 use Rattle.pool_rows.specs.Workers.{is_attached_to, is_occupied_in, is_persistent_in, runs}
 use Rattle.pool_rows.proofs.Counting.{length-filter_le, length-kept}
 use Rattle.pool_rows.proofs.Entries.{tally_at-get_or, tally_at_past}

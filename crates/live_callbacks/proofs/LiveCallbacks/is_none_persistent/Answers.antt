@@ -1,4 +1,4 @@
-use Rattle.std.proofs.Common.{◌≡◌, ◌∙◌, true, false, nat_eq, ap, sym, eqb-true}
+use Rattle.std.proofs.Common.{◌∙◌, true, false, nat_eq, ap, sym, eqb-true}
 use Rattle.live_callbacks.specs.Held.{rows_of}
 use Rattle.live_callbacks.proofs.Halves.{alone, any_waiting, half_alone}
 use Rattle.live_callbacks.proofs.LiveCallbacks.is_none_persistent.Goals as goal

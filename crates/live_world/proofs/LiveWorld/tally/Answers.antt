@@ -1,4 +1,4 @@
-use Rattle.std.proofs.Common.{sym, ap, ap₂, ◌∙◌}
+use Rattle.std.proofs.Common.{sym, ap, ◌∙◌}
 use Rattle.live_world.specs.Live.{Live}
 use Rattle.live_world.specs.Tally.{tally_of, tally_shown}
 use Rattle.live_world.proofs.Counting.{is_tally, is_no_tally}
@@ -12,6 +12,6 @@ returns-in-None c =
 pub returns-in-Some : goal.returns-in-Some
 returns-in-Some c =
     c.tally_shown.ensures
-    ∙ ap₂ (λ n m. tally_shown n m c.in-Some.counts) c.pending-waiting.ensures.value c.open_to_others-takeable.ensures
+    ∙ ap (λ n. tally_shown n c.in-Some.counts) c.pending.ensures.value
     ∙ is_tally c.self.inside c.args.pool.0 c.in-Some.counts c.self.invariant (sym c.counts.ensures ∙ c.in-Some.is)
     ∙ ap (λ (l : Live). tally_of l.world c.args.pool.0) c.self.view_is

@@ -1,5 +1,4 @@
-use Rattle.std.proofs.Common.{◌≡◌, ◌∙◌, ◌<◌, ◌≤◌, length, map, filter, get_or, false, refl, sym, ap, arith}
-use Rattle.tp_base.specs.declared.rows.PoolRow.{PoolRow}
+use Rattle.std.proofs.Common.{◌≡◌, ◌∙◌, length, map, filter, get_or, false, refl, sym, ap, arith}
 use Rattle.pool_rows.specs.declared.tallies.PoolEntry.{PoolEntry}
 use Rattle.pool_rows.specs.Workers.{runs}
 use Rattle.pool_rows.proofs.Counting.{length-filter_le}
