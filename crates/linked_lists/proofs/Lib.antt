@@ -1,4 +1,6 @@
+pub mod Each
 pub mod Ends
+pub mod Filling
 pub mod Going
 pub mod Limits
 pub mod Links
@@ -7,6 +9,7 @@ pub mod Moves
 pub mod Moving
 pub mod Order
 pub mod Passed
+pub mod Places
 pub mod Rings
 pub mod Runs
 pub mod Seen

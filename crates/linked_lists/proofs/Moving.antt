@@ -1,10 +1,10 @@
--- What is told of lists as a place leaves one and comes into another.
-use Rattle.std.proofs.Common.{◌≡◌, ◌≢◌, ◌==◌, ℕ, zero, suc, ◌≤◌, ◌<◌, Bool, not, List, [], ◌∷◌, ◌++◌, filter, length, get_or, set, slice_index, if◌then◌else◌, refl, sym, ap, ap₂, subst, ◌∙◌, arith, ltb, ⊎_elim, ne_eqb, eq-eqb, length-set, get_or-set_same, get_or-set_other}
+-- What is told of lists as a key leaves one and comes into another.
+use Rattle.std.proofs.Common.{◌≡◌, ◌≢◌, ◌==◌, ℕ, zero, suc, ◌≤◌, ◌<◌, Bool, not, List, [], ◌∷◌, ◌++◌, Option, None, Some, IfSome, filter, length, get_or, set, slice_index, if◌then◌else◌, refl, sym, ap, ap₂, subst, ◌∙◌, arith, ltb, ⊎_elim, ne_eqb, eq-eqb, length-set, get_or-set_same, get_or-set_other}
 use Rattle.std.proofs.lemmas.Bool.{cases_eq, cases_lt}
 use Rattle.std.proofs.lemmas.List.{get_or_past}
 use Rattle.std.proofs.lemmas.List.Kept.{AllPairs-filter}
-use Rattle.linked_lists.specs.Linked.{AreInOrder, AreOwned, Linked, is_below, list_of, moved, owner_of, times}
-use Rattle.linked_lists.specs.Moved.{IsEntered, IsLeft, IsMoved, IsReached, with_place, without}
+use Rattle.linked_lists.specs.Linked.{AreInOrder, AreOwned, IsFree, Linked, is_below, list_of, moved, owner_of, times}
+use Rattle.linked_lists.specs.Moved.{IsEntered, IsLeft, IsMoved, with_key, without}
 use Rattle.linked_lists.proofs.Runs.{tally_other, tally_same}
 
 -- ---- places that are not among these
@@ -67,7 +67,7 @@ none_in all place x are free within = are.once x place within ∙ tally_other (o
 
 pub left_none : (all : Linked) (place : ℕ) → AreOwned all → owner_of all place ≡ length all.lists → IsLeft all all place
 left_none all place are free = record {
-  room = refl;
+  keys = refl;
   many = refl;
   listed = λ x within. sym (without_none place (list_of all x) (none_in all place x are free within));
   owners = λ q.
@@ -89,7 +89,7 @@ left_taken all place are some =
     (cases_lt place (length all.owners))
     in
     record {
-      room = refl;
+      keys = refl;
       many = length-set all.lists list places;
       listed = λ x lt.
           list_moved all place (length all.lists) list places x lt
@@ -103,49 +103,43 @@ left_taken all place are some =
 
 -- ---- a place comes in
 
-module _ (old new : Linked) (place list number : ℕ) (reached : IsReached old new place) (free : owner_of old place ≡ length old.lists) (within : list < length old.lists) where
+module _ (old : Linked) (place list number : ℕ) (are : AreOwned old) (held : place < length old.owners) (free : IsFree old place) (within : list < length old.lists) where
   abbrev numbered : List ℕ
-  numbered = set new.numbers place number
+  numbered = set old.numbers place number
 
   same_numbers : (q : ℕ) → q ≢ place → slice_index numbered q ≡ slice_index old.numbers q
-  same_numbers q apart = get_or-set_other new.numbers place q number 0 apart ∙ reached.numbers q
+  same_numbers q apart = get_or-set_other old.numbers place q number 0 apart
 
-  same_list : (x : ℕ) → list_of new x ≡ list_of old x
-  same_list x = ap (λ (ls : List (List ℕ)). get_or ls x []) reached.lists
+  none_there : (x : ℕ) → x < length old.lists → times place (list_of old x) ≡ 0
+  none_there x lt = none_in old place x are free.in_none lt
 
-  none_there : (x : ℕ) → x < length old.lists → times place (list_of new x) ≡ 0
-  none_there x lt = none_in new place x reached.owned (reached.owners place ∙ free ∙ sym (ap length reached.lists)) (omega (arith, lt, ap length reached.lists))
+  pub order_there : AreInOrder old.numbers (list_of old list) → AreInOrder numbered (list_of old list)
+  order_there order = order_apart place old.numbers numbered same_numbers (list_of old list) (none_there list within) order
 
-  pub order_there : AreInOrder old.numbers (list_of old list) → AreInOrder numbered (list_of new list)
-  order_there order = order_apart place old.numbers numbered same_numbers (list_of new list) (none_there list within) (subst (AreInOrder old.numbers) (sym (same_list list)) order)
-
-  with_there : with_place numbered number place (list_of new list) ≡ with_place old.numbers number place (list_of old list)
+  with_there : with_key numbered number place (list_of old list) ≡ with_key old.numbers number place (list_of old list)
   with_there =
       let below : (p : ℕ) → p ≢ place → is_below numbered number p ≡ is_below old.numbers number p = λ p apart. ap (λ n. ltb n number) (same_numbers p apart) in
       let none = none_there list within in
       ap₂ (λ (xs ys : List ℕ). xs ++ place ∷ ys)
-      (filter_apart place (is_below numbered number) (is_below old.numbers number) below (list_of new list) none)
-      (filter_apart place (λ p. not (is_below numbered number p)) (λ p. not (is_below old.numbers number p)) (λ p apart. ap not (below p apart)) (list_of new list) none)
-      ∙ ap (with_place old.numbers number place) (same_list list)
+      (filter_apart place (is_below numbered number) (is_below old.numbers number) below (list_of old list) none)
+      (filter_apart place (λ p. not (is_below numbered number p)) (λ p. not (is_below old.numbers number p)) (λ p apart. ap not (below p apart)) (list_of old list) none)
 
-  pub entered : IsEntered old (moved (record new { numbers = numbered }) place list list (with_place numbered number place (list_of new list))) place list number
+  pub entered : IsEntered old (moved (record old { numbers = numbered }) place list list (with_key numbered number place (list_of old list))) place list number
   entered =
-      let s : Linked = record new { numbers = numbered } in
-      let places = with_place numbered number place (list_of new list) in
+      let s : Linked = record old { numbers = numbered } in
+      let places = with_key numbered number place (list_of old list) in
       record {
-        room = reached.room;
-        many = length-set new.lists list places ∙ ap length reached.lists;
+        keys = length-set old.numbers place number;
+        many = length-set old.lists list places;
         listed = λ x lt.
-            list_moved s place list list places x (omega (arith, lt, ap length reached.lists))
+            list_moved s place list list places x lt
             ∙ ⊎_elim
-            (λ (same : x ≡ list). rw (eq-eqb x list same) (with_there ∙ ap (λ n. with_place old.numbers number place (list_of old n)) (sym same)))
-            (λ (apart : x ≢ list). rw (ne_eqb x list apart) (same_list x))
+            (λ (same : x ≡ list). rw (eq-eqb x list same) (with_there ∙ ap (λ n. with_key old.numbers number place (list_of old n)) (sym same)))
+            (λ (apart : x ≢ list). rw (ne_eqb x list apart) refl)
             (cases_eq x list);
-        owners = λ q.
-            owner_moved s place list list places q reached.held
-            ∙ ap (λ n. if q == place then list else n) (reached.owners q);
+        owners = λ q. owner_moved s place list list places q held;
         numbers = same_numbers;
-        known = get_or-set_same new.numbers place number 0 reached.there;
+        known = get_or-set_same old.numbers place number 0 free.there;
       }
 
 -- ---- and both
@@ -159,11 +153,15 @@ module _ (old mid : Linked) (place list number : ℕ) (left : IsLeft old mid pla
   pub left_free : owner_of mid place ≡ length mid.lists
   left_free = left.owners place ∙ ap (λ b. if b then length old.lists else owner_of old place) (eq-eqb place place refl) ∙ sym left.many
 
+  pub near_left : owner_of old place ≢ list → (near : Option ℕ) → IfSome near (λ at. owner_of old at ≡ list) → IfSome near (λ at. owner_of mid at ≡ list)
+  near_left apart None is = is
+  near_left apart (Some at) is = left.owners at ∙ ap (λ b. if b then length old.lists else owner_of old at) (ne_eqb at place (λ e. apart (ap (owner_of old) (sym e) ∙ is))) ∙ is
+
   pub left_moved : list ≡ length old.lists → IsMoved old mid place list number
   left_moved none = record {
-    room = left.room;
+    keys = left.keys;
     many = left.many;
-    listed = λ x lt. left.listed x lt ∙ sym (ap (λ b. if b then with_place old.numbers number place (without place (list_of old x)) else without place (list_of old x)) (ne_eqb x list (λ e. absurd (omega (arith, e, none, lt)))));
+    listed = λ x lt. left.listed x lt ∙ sym (ap (λ b. if b then with_key old.numbers number place (without place (list_of old x)) else without place (list_of old x)) (ne_eqb x list (λ e. absurd (omega (arith, e, none, lt)))));
     owners = λ q. left.owners q ∙ ap (λ n. if q == place then n else owner_of old q) (sym none);
     numbers = λ q apart. ap (λ ns. slice_index ns q) left.numbers;
     known = λ lt. absurd (omega (arith, lt, none));
@@ -171,11 +169,11 @@ module _ (old mid : Linked) (place list number : ℕ) (left : IsLeft old mid pla
 
   pub both_moved : (new : Linked) → list < length old.lists → IsEntered mid new place list number → IsMoved old new place list number
   both_moved new within entered = record {
-    room = entered.room ∙ left.room;
+    keys = entered.keys ∙ left.keys;
     many = entered.many ∙ left.many;
     listed = λ x lt.
         entered.listed x (omega (arith, lt, left.many))
-        ∙ ap₂ (λ (ns : List ℕ) (xs : List ℕ). if x == list then with_place ns number place xs else xs) left.numbers (left.listed x lt);
+        ∙ ap₂ (λ (ns : List ℕ) (xs : List ℕ). if x == list then with_key ns number place xs else xs) left.numbers (left.listed x lt);
     owners = λ q. entered.owners q ∙ owner_both q;
     numbers = λ q apart. entered.numbers q apart ∙ ap (λ ns. slice_index ns q) left.numbers;
     known = λ lt. entered.known;

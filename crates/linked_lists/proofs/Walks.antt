@@ -24,19 +24,18 @@ lists_from_at after k (n ∷ ns) (suc s) within =
     lists_from_at after (suc k) ns s (omega arith) ∙ ap (λ place. walk after (get_or ns s 0) place) (omega arith)
 
 -- a list is as long as is noted
-pub length_at : (after : ℕ → ℕ) (lens : List ℕ) (s : ℕ) → s < length lens → length (get_or (lists_from after 0 lens) s []) ≡ get_or lens s 0
-length_at after lens s within = ap length (lists_from_at after 0 lens s within) ∙ length-walk after (get_or lens s 0) (0 + s)
+pub length_at : (after : ℕ → ℕ) (k : ℕ) (lens : List ℕ) (s : ℕ) → s < length lens → length (get_or (lists_from after k lens) s []) ≡ get_or lens s 0
+length_at after k lens s within = ap length (lists_from_at after k lens s within) ∙ length-walk after (get_or lens s 0) (k + s)
 
 -- rings of these lengths are what is shown
-pub shown : (after before : ℕ → ℕ) (lists : List (List ℕ)) (lens : List ℕ) → ((s : ℕ) → s < length lists → Run after before s (get_or lists s []) s) → length lists ≡ length lens → ((s : ℕ) → s < length lens → length (get_or lists s []) ≡ get_or lens s 0) → lists_from after 0 lens ≡ lists
-shown after before lists lens rings long lengths =
-    ext_get_or [] (lists_from after 0 lens) lists (length-lists_from after 0 lens ∙ sym long)
+pub shown : (after before : ℕ → ℕ) (k : ℕ) (lists : List (List ℕ)) (lens : List ℕ) → ((s : ℕ) → s < length lists → Run after before (k + s) (get_or lists s []) (k + s)) → length lists ≡ length lens → ((s : ℕ) → s < length lens → length (get_or lists s []) ≡ get_or lens s 0) → lists_from after k lens ≡ lists
+shown after before k lists lens rings long lengths =
+    ext_get_or [] (lists_from after k lens) lists (length-lists_from after k lens ∙ sym long)
     (λ s lt.
-    let within : s < length lens = omega (arith, lt, length-lists_from after 0 lens) in
-    lists_from_at after 0 lens s within
-    ∙ ap (λ n. walk after n (0 + s)) (sym (lengths s within))
-    ∙ ap (λ place. walk after (length (get_or lists s [])) place) (omega arith)
-    ∙ walk_run after before s s (get_or lists s []) (rings s (omega (arith, within, long))))
+    let within : s < length lens = omega (arith, lt, length-lists_from after k lens) in
+    lists_from_at after k lens s within
+    ∙ ap (λ n. walk after n (k + s)) (sym (lengths s within))
+    ∙ walk_run after before (k + s) (k + s) (get_or lists s []) (rings s (omega (arith, within, long))))
 
 -- the same lengths, as one list has changed
 pub lengths_set :

@@ -1,51 +1,51 @@
 -- What linked lists keep between calls, and the lists that they stand for.
-use Rattle.std.specs.Prelude.{◌≡◌, ℕ, zero, suc, ◌≤◌, ◌<◌, ◌^◌, List, [], ◌∷◌, length, map, replicate, slice_index}
-use Rattle.linked_lists.specs.declared.nodes.Node.{Node}
+use Rattle.std.specs.Prelude.{◌≡◌, ℕ, zero, suc, ◌+◌, ◌<◌, ◌^◌, List, [], ◌∷◌, length, slice_index}
 use Rattle.linked_lists.specs.Linked.{Linked, owner_of, times}
-use Rattle.linked_lists.specs.Nodes.{Arena, node_at}
+use Rattle.linked_lists.specs.Nodes.{Arena, IsPlaceIn, code}
 use Rattle.linked_lists.specs.Rings.{AreRings}
 
-abbrev pub after_in : List Node → ℕ → ℕ
-after_in nodes place = (node_at nodes place).after
+abbrev pub after_in : Arena → ℕ → ℕ
+after_in arena at = slice_index arena.after at
 
-abbrev pub before_in : List Node → ℕ → ℕ
-before_in nodes place = (node_at nodes place).before
+abbrev pub before_in : Arena → ℕ → ℕ
+before_in arena at = slice_index arena.before at
 
--- so many places on from this one
+-- so many on from this one
 abbrev pub walk : (ℕ → ℕ) → ℕ → ℕ → List ℕ
-walk after zero place = []
-walk after (suc n) place = after place ∷ walk after n (after place)
+walk after zero at = []
+walk after (suc n) at = after at ∷ walk after n (after at)
 
--- the places of lists that are so long, where the first has this place of its own
+-- the keys of lists that are so long, where the first has this end
 abbrev pub lists_from : (ℕ → ℕ) → ℕ → List ℕ → List (List ℕ)
-lists_from after place [] = []
-lists_from after place (n ∷ ns) = walk after n place ∷ lists_from after (suc place) ns
+lists_from after end [] = []
+lists_from after end (n ∷ ns) = walk after n end ∷ lists_from after (suc end) ns
 
-abbrev pub lists_in : List Node → List ℕ → List (List ℕ)
-lists_in nodes lens = lists_from (after_in nodes) 0 lens
+abbrev pub lists_in : Arena → List ℕ → List (List ℕ)
+lists_in arena lens = lists_from (after_in arena) (length arena.numbers) lens
 
 -- what contracts see
 abbrev pub linked_in : Arena → List ℕ → List ℕ → Linked
 linked_in arena owners lens = record {
-  room = arena.room;
-  numbers = map (λ node. node.number) arena.nodes;
+  numbers = arena.numbers;
   owners = owners;
-  lists = lists_in arena.nodes lens;
+  lists = lists_in arena lens;
 }
 
--- the lists are rings, each is as long as it has places, and there is an owner for each place, and memory for those to come
-pub record AreKept (capacity : ℕ) (arena : Arena) (owners lens : List ℕ) : Type 0 where
-  pub rings : AreRings (after_in arena.nodes) (before_in arena.nodes) (owner_of (linked_in arena owners lens)) (lists_in arena.nodes lens)
-  pub counted : (s : ℕ) → s < length lens → slice_index lens s ≡ times s owners
-  pub sized : length owners ≡ length arena.nodes
-  pub headed : length lens ≤ length arena.nodes
-  pub within : length arena.nodes ≤ arena.room
-  pub reserved : arena.room ≤ capacity
-  pub fits : arena.room < 2 ^ 32
+-- a place, and the key or end at it
+abbrev pub IsPlaceOf : Linked → ℕ → Type 0
+IsPlaceOf all place = IsPlaceIn (length all.numbers) (length all.numbers + length all.lists) place
 
--- so many nodes, each of which follows itself and has the number 0
-pub record AreOpened (n : ℕ) (nodes : List Node) : Type 0 where
-  pub many : length nodes ≡ n
-  pub numbers : map (λ (node : Node). node.number) nodes ≡ replicate n 0
-  pub alone_after : (place : ℕ) → place < n → after_in nodes place ≡ place
-  pub alone_before : (place : ℕ) → place < n → before_in nodes place ≡ place
+abbrev pub code_of : Linked → ℕ → ℕ
+code_of all place = code (length all.numbers) place
+
+-- the lists are rings, each is as long as it has keys, each key has an owner, none is the number of lists, and each key
+-- and each end has what follows it and what stands before it
+pub record AreKept (none : ℕ) (arena : Arena) (owners lens : List ℕ) : Type 0 where
+  pub rings : AreRings (length arena.numbers) (after_in arena) (before_in arena) (owner_of (linked_in arena owners lens)) (lists_in arena lens)
+  pub counted : (s : ℕ) → s < length lens → slice_index lens s ≡ times s owners
+  pub sized : length owners ≡ length arena.numbers
+  pub on_many : length arena.after ≡ length arena.numbers + length lens
+  pub back_many : length arena.before ≡ length arena.numbers + length lens
+  pub unlisted : none ≡ length lens
+  pub keys_fit : length arena.numbers < 2 ^ 32
+  pub lists_fit : length lens < 2 ^ 32

@@ -2,10 +2,8 @@
 use Rattle.std.specs.Prelude.{◌≡◌, ℕ, ◌+◌, ◌≤◌, ◌<◌, ◌==◌, ◌⊎◌, Bool, true, false, nat_lt, not, List, [], ◌∷◌, Option, None, filter, length, slice_get, slice_index, slice_index_or, slice_set, if◌then◌else◌}
 use Rattle.std.specs.List.{AllPairs}
 
--- for how many places there is room; by place the numbers, and the lists that they are in; and the places of each
--- list, in order. The first places are the lists' own
+-- by key the numbers, and the lists that they are in; and the keys of each list, in order
 pub record Linked : Type 0 where
-  pub room : ℕ
   pub numbers : List ℕ
   pub owners : List ℕ
   pub lists : List (List ℕ)
@@ -17,15 +15,18 @@ list_of all list = slice_index_or all.lists list []
 abbrev pub owner_of : Linked → ℕ → ℕ
 owner_of all place = slice_index_or all.owners place (length all.lists)
 
--- a place that is in no list, and is not a list's own
-pub record IsFree (all : Linked) (place : ℕ) : Type 0 where
-  pub there : place < length all.numbers
-  pub not_own : length all.lists ≤ place
-  pub in_none : owner_of all place ≡ length all.lists
+-- a key that is in no list
+pub record IsFree (all : Linked) (key : ℕ) : Type 0 where
+  pub there : key < length all.numbers
+  pub in_none : owner_of all key ≡ length all.lists
 
--- a place of this list, or the list's own
+-- the end of a list: the ends count on from the keys
+abbrev pub end_at : Linked → ℕ → ℕ
+end_at all list = length all.numbers + list
+
+-- a key of this list, or the list's end
 abbrev pub IsOf : Linked → ℕ → ℕ → Type 0
-IsOf all list place = (place ≡ list) ⊎ (owner_of all place ≡ list)
+IsOf all list at = (at ≡ end_at all list) ⊎ (owner_of all at ≡ list)
 
 abbrev pub tally : Bool → ℕ
 tally true = 1
@@ -36,10 +37,10 @@ abbrev pub times : ℕ → List ℕ → ℕ
 times place [] = 0
 times place (x ∷ xs) = tally (x == place) + times place xs
 
--- each place is once in the list that it is in, and in no other; a list's own place is in none
+-- each key is once in the list that it is in, and in no other; a list's end is in none
 pub record AreOwned (all : Linked) : Type 0 where
-  pub once : (list place : ℕ) → list < length all.lists → times place (list_of all list) ≡ tally (owner_of all place == list)
-  pub own : (list : ℕ) → list < length all.lists → owner_of all list ≡ length all.lists
+  pub once : (list key : ℕ) → list < length all.lists → times key (list_of all list) ≡ tally (owner_of all key == list)
+  pub own : (list : ℕ) → list < length all.lists → owner_of all (end_at all list) ≡ length all.lists
 
 -- the place that follows this one
 abbrev pub place_after : ℕ → List ℕ → Option ℕ

@@ -1,7 +1,10 @@
-//! Nodes in one array, each with a number and two links.
+//! Nodes in one array, each with a number and two links. A key and the end of a list have a node each: that of key k
+//! stands at the place 2k, and that of list l's end at 2l + 1. The array is filled as far as nodes are written, and
+//! whoever reads one that isn't there yet reads one that follows itself, with the number 0.
 
-ghost use Rattle.std.specs.Prelude.{◌≡◌, ◌+◌, ◌≤◌, ◌<◌, ◌^◌, ◌++◌, [], ◌∷◌, IfOk, length, slice_index_or, slice_set};
-ghost use Rattle.linked_lists.specs.Nodes.{linked, no_node, node_at, with_node};
+ghost use Rattle.std.specs.Prelude.{◌≡◌, ℕ, ◌+◌, ◌*◌, ◌≤◌, ◌<◌, ◌^◌, IfNone, IfOk, IfSome, length, max, replicate, slice_set, vec_capacity};
+ghost use Rattle.std.specs.List.{range_with_len};
+ghost use Rattle.linked_lists.specs.Nodes.{IsPlace, IsRead, here, linked, node_at};
 
 use std::alloc::{AllocError, Global};
 use std::marker::Model;
@@ -9,16 +12,17 @@ use steps::Steps;
 
 /// A number, and the places before and behind it.
 #[derive(Clone, Copy)]
-pub struct Node {
+pub(crate) struct Node {
     pub number: u64,
     pub before: u32,
     pub after: u32,
 }
 
-/// Nodes in places, seen as their list.
+/// Nodes, seen as the numbers of the keys, and as what follows and what stands before each key and each end.
 #[derive(Drop)]
-pub struct Nodes {
-    room: u32,
+pub(crate) struct Nodes {
+    keys: u32,
+    lists: u32,
     nodes: Vec<Node>,
 }
 
@@ -28,71 +32,125 @@ impl Model for Nodes {
     ghost Value = { Arena };
 
     ghost use Rattle.std.specs.Vec.{vec_capacity};
-    ghost use Rattle.linked_lists.specs.Nodes.{HasRoom};
+    ghost use Rattle.linked_lists.specs.Nodes.{AreFilled, arena_of};
 
-    ghost view = { λ a. record { room = a.room; nodes = a.nodes.items } };
+    ghost view = { λ a. arena_of a.keys a.lists a.nodes.items };
 
-    ghost invariant = { λ a. HasRoom a.room (vec_capacity a.nodes) a.nodes.items };
+    ghost invariant = { λ a. AreFilled a.keys a.lists (vec_capacity a.nodes) a.nodes.items };
+}
+
+// Adds nodes that follow themselves until there is one at this place.
+#[inline(always)]
+fn reach(nodes: &mut Vec<Node>, place: u32)
+    requires { place < vec_capacity nodes.old }
+    ensures many { length nodes.new.items ≡ max (length nodes.old.items) (place + 1) }
+    ensures same { (k : ℕ) → node_at nodes.new.items k ≡ node_at nodes.old.items k }
+    ensures capacity { vec_capacity nodes.new ≡ vec_capacity nodes.old }
+{
+    while nodes.len() <= place as usize {
+        let alone = nodes.len() as u32;
+        nodes.push_reserved(Node {
+            number: 0,
+            before: alone,
+            after: alone,
+        });
+    }
 }
 
 impl Nodes {
-    /// No nodes, with the memory for `room` of them.
+    /// Nodes that follow themselves, with the memory for those of so many lists and keys, none of which is filled.
     ///
-    /// An `AllocError` comes where that memory can't be had.
-    pub fn open(alloc: Global, room: u32) -> Result<Nodes, AllocError>
-        ensures { IfOk result (λ nodes. nodes ≡ record { room = room; nodes = [] }) }
+    /// An `AllocError` comes where that memory can't be had, or a place would not fit a u32.
+    pub fn open(alloc: Global, lists: u32, keys: u32) -> Result<Nodes, AllocError>
+        ensures { IfOk result (λ nodes. nodes ≡ record {
+          numbers = replicate keys 0;
+          after = range_with_len 0 (keys + lists);
+          before = range_with_len 0 (keys + lists);
+        }) }
     {
-        let nodes = Vec::with_capacity(alloc, room as usize)?;
-        Ok(Nodes { room, nodes })
+        if lists.max(keys) > 1 << 31 {
+            return Err(AllocError);
+        }
+        let nodes = Vec::with_capacity(alloc, 2 * lists.max(keys) as usize)?;
+        Ok(Nodes { keys, lists, nodes })
     }
 
-    /// How many nodes there are. There are never more than there is room for.
+    /// The place of a key.
     #[inline(always)]
-    pub fn len(&self) -> u32
-        ensures value { result ≡ length self.now.nodes }
-        ensures limited { length self.now.nodes ≤ self.now.room }
-        ensures fits { self.now.room < 2 ^ 32 }
+    pub fn place_of(&self, key: u32) -> u32
+        requires { key < length self.now.numbers }
+        ensures place { IsPlace self.now result }
+        ensures key { here self.now result ≡ key }
     {
-        self.nodes.len() as u32
+        // It is read for what is known of it: all places fit.
+        let _keys = self.keys;
+        2 * key
+    }
+
+    /// The place of a list's end.
+    #[inline(always)]
+    pub fn end_of(&self, list: u32) -> u32
+        requires { length self.now.numbers + list < length self.now.after }
+        ensures place { IsPlace self.now result }
+        ensures end { here self.now result ≡ length self.now.numbers + list }
+    {
+        let _lists = self.lists;
+        2 * list + 1
+    }
+
+    /// The key at a place, or None at an end.
+    #[inline(always)]
+    pub fn key_at(&self, place: u32) -> Option<u32>
+        requires { IsPlace self.now place }
+        ensures key { IfSome result (λ key. key ≡ here self.now place) }
+        ensures within { IfSome result (λ key. key < length self.now.numbers) }
+        ensures end { IfNone result (length self.now.numbers ≤ here self.now place) }
+    {
+        if place % 2 == 0 {
+            Some(place / 2)
+        } else {
+            None
+        }
     }
 
     /// The node at a place. That is one step, and no other call reads a node.
     #[inline(always)]
     pub fn read(&self, place: u32, steps: &mut Steps) -> Node
-        requires { place < length self.now.nodes }
-        ensures node { result ≡ slice_index_or self.now.nodes place no_node }
+        requires { IsPlace self.now place }
+        ensures node { IsRead self.now place result }
         ensures step { steps.new ≡ steps.old + 1 }
     {
         steps.tick();
-        self.nodes[place as usize]
-    }
-
-    /// Adds a node behind the others.
-    #[inline(always)]
-    pub fn push(&mut self, node: Node)
-        requires { length self.old.nodes < self.old.room }
-        ensures { self.new ≡ record self.old { nodes = self.old.nodes ++ node ∷ [] } }
-    {
-        self.nodes.push_reserved(node);
+        if (place as usize) < self.nodes.len() {
+            self.nodes[place as usize]
+        } else {
+            Node {
+                number: 0,
+                before: place,
+                after: place,
+            }
+        }
     }
 
     /// Makes the second place follow the first. No other call changes a link.
     #[inline(always)]
     pub fn link(&mut self, before: u32, after: u32)
-        requires first { before < length self.old.nodes }
-        requires second { after < length self.old.nodes }
-        ensures { self.new ≡ record self.old { nodes = linked before after self.old.nodes } }
+        requires first { IsPlace self.old before }
+        requires second { IsPlace self.old after }
+        ensures { self.new ≡ linked (here self.old before) (here self.old after) self.old }
     {
+        reach(&mut self.nodes, before.max(after));
         self.nodes[before as usize].after = after;
         self.nodes[after as usize].before = before;
     }
 
-    /// Gives a place this number.
+    /// Gives a key this number.
     #[inline(always)]
-    pub fn set_number(&mut self, place: u32, number: u64)
-        requires { place < length self.old.nodes }
-        ensures { self.new ≡ record self.old { nodes = with_node place (record (node_at self.old.nodes place) { number = number }) self.old.nodes } }
+    pub fn set_number(&mut self, key: u32, number: u64)
+        requires { key < length self.old.numbers }
+        ensures { self.new ≡ record self.old { numbers = slice_set self.old.numbers key number } }
     {
-        self.nodes[place as usize].number = number;
+        reach(&mut self.nodes, 2 * key);
+        self.nodes[2 * key as usize].number = number;
     }
 }
