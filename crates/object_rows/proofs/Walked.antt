@@ -14,9 +14,8 @@ use Rattle.tp_model.specs.Counts.{numbered}
 use Rattle.tp_model.specs.Groups.{gets_notice, has_cancel, is_member, is_object_that, numbers_in, object_id, objects_that}
 use Rattle.tp_model.proofs.Refusals.{false_true, made, numbered_some}
 use Rattle.tp_model.proofs.Releasing.{that_made}
-use Rattle.object_rows.specs.Listed.{AreMembered, places_of}
+use Rattle.object_rows.specs.Listed.{AreMembered}
 use Rattle.object_rows.specs.Objects.{notices_among}
-use Rattle.object_rows.proofs.Listed.{shifted}
 
 -- ---- numbers of a range that pass a test
 
@@ -24,14 +23,14 @@ first_passing : (p : ℕ → Bool) (ns : List ℕ) → find p ns ≡ slice_get (
 first_passing p [] = refl
 first_passing p (n ∷ ns) = elim (p n) as (λ b. cond b (Some n) (find p ns) ≡ slice_get (cond b (n ∷ filter p ns) (filter p ns)) 0) [ true ↦ refl | false ↦ first_passing p ns ]
 
--- the place of one is among the places of those that pass, and behind it stands that of the next
-record HasPlace (p : ℕ → Bool) (groups number first count : ℕ) : Type 0 where
-  listed : 1 ≤ times (groups + number) (places_of groups (filter p (range_with_len first count)))
-  behind : (left : ℕ) → first + count ≡ number + 1 + left → place_after (groups + number) (places_of groups (filter p (range_with_len first count))) ≡ option_map (λ n. groups + n) (find p (range_with_len (number + 1) left))
+-- one is among those that pass, and behind it stands the next
+record IsAmong (p : ℕ → Bool) (number first count : ℕ) : Type 0 where
+  listed : 1 ≤ times number (filter p (range_with_len first count))
+  behind : (left : ℕ) → first + count ≡ number + 1 + left → place_after number (filter p (range_with_len first count)) ≡ find p (range_with_len (number + 1) left)
 
-has_place : (p : ℕ → Bool) (groups number first count : ℕ) → p number ≡ true → first ≤ number → number < first + count → HasPlace p groups number first count
-has_place p groups number first zero passes from within = absurd (omega (arith, from, within))
-has_place p groups number first (suc count) passes from within = by_number (first == number) refl (λ above. has_place p groups number (first + 1) count passes above (omega (arith, within)))
+is_among : (p : ℕ → Bool) (number first count : ℕ) → p number ≡ true → first ≤ number → number < first + count → IsAmong p number first count
+is_among p number first zero passes from within = absurd (omega (arith, from, within))
+is_among p number first (suc count) passes from within = by_number (first == number) refl (λ above. is_among p number (first + 1) count passes above (omega (arith, within)))
   where
     others : List ℕ
     others = filter p (range_with_len (first + 1) count)
@@ -39,30 +38,27 @@ has_place p groups number first (suc count) passes from within = by_number (firs
     below : (first ≡ number → ⊥) → first + 1 ≤ number
     below apart = ⊎_elim (λ same. absurd (apart same)) (λ less. omega (arith, less)) (eq-or-lt_of_le from)
 
-    by_number : (b : Bool) → (first == number) ≡ b → (first + 1 ≤ number → HasPlace p groups number (first + 1) count) → HasPlace p groups number first (suc count)
+    by_number : (b : Bool) → (first == number) ≡ b → (first + 1 ≤ number → IsAmong p number (first + 1) count) → IsAmong p number first (suc count)
     by_number true e behind_it =
         let same : first ≡ number = eqb-true first number e in
         let here : filter p (range_with_len first (suc count)) ≡ first ∷ others = ap (λ b. cond b (first ∷ others) others) (ap p same ∙ passes) in
-        let own : (groups + first == groups + number) ≡ true = shifted groups first number ∙ e in
         record {
-          listed = omega (arith, ap (λ ns. times (groups + number) (places_of groups ns)) here, ap tally own);
+          listed = omega (arith, ap (times number) here, ap tally e);
           behind = λ left ends.
-              ap (λ ns. place_after (groups + number) (places_of groups ns)) here
-              ∙ ap (λ b. cond b (slice_get (places_of groups others) 0) (place_after (groups + number) (places_of groups others))) own
-              ∙ slice_get-map (λ n. groups + n) others 0
-              ∙ ap (option_map (λ n. groups + n)) (sym (first_passing p (range_with_len (first + 1) count)) ∙ ap₂ (λ f c. find p (range_with_len (f + 1) c)) same (omega (arith, ends, same)));
+              ap (place_after number) here
+              ∙ ap (λ b. cond b (slice_get others 0) (place_after number others)) e
+              ∙ sym (first_passing p (range_with_len (first + 1) count)) ∙ ap₂ (λ f c. find p (range_with_len (f + 1) c)) same (omega (arith, ends, same));
         }
     by_number false e behind_it =
         let later = behind_it (below (λ same. eqb-false first number e same)) in
-        let apart : (groups + first == groups + number) ≡ false = shifted groups first number ∙ e in
         record {
-          listed = elim (p first) as (λ b. 1 ≤ times (groups + number) (places_of groups (cond b (first ∷ others) others))) [
+          listed = elim (p first) as (λ b. 1 ≤ times number (cond b (first ∷ others) others)) [
             | true ↦ omega (arith, later.listed)
             | false ↦ later.listed
           ];
           behind = λ left ends.
-              elim (p first) as (λ b. place_after (groups + number) (places_of groups (cond b (first ∷ others) others)) ≡ place_after (groups + number) (places_of groups others)) [
-                | true ↦ ap (λ b. cond b (slice_get (places_of groups others) 0) (place_after (groups + number) (places_of groups others))) apart
+              elim (p first) as (λ b. place_after number (cond b (first ∷ others) others) ≡ place_after number others) [
+                | true ↦ ap (λ b. cond b (slice_get others 0) (place_after number others)) e
                 | false ↦ refl
               ]
               ∙ later.behind left (omega (arith, ends));
@@ -104,55 +100,37 @@ none_found p q over (n ∷ ns) e =
 
 -- ---- as the lists give them
 
--- a place, if there is one, is that of the number
-abbrev pub IsPlaceOf : ℕ → Option ℕ → Option ℕ → Type 0
-IsPlaceOf groups None number = None ≡ number
-IsPlaceOf groups (Some place) number = (groups ≤ place) × (Some (place - groups) ≡ number)
-
-is_place : (groups : ℕ) (place number : Option ℕ) → place ≡ option_map (λ n. groups + n) number → IsPlaceOf groups place number
-is_place groups None None e = refl
-is_place groups None (Some n) e = absurd cc
-is_place groups (Some p) None e = absurd cc
-is_place groups (Some p) (Some n) e =
-    let same : p ≡ groups + n = cc in
-    let back : p - groups ≡ n = omega (arith, same) in
-    (omega (arith, same), ap Some back)
-
 module _ (groups limit : ℕ) (os : List ObjectRow) (members : Linked) (group : ℕ) (k : AreMembered groups limit os members) (within : group ≤ groups) where
   abbrev p : ℕ → Bool
   p = is_object_that (is_member group) os
 
-  pub first_listed : (place : Option ℕ) → place ≡ slice_get (list_of members group) 0 → IsPlaceOf groups place (find p (numbers_in os))
-  first_listed place is =
-      is_place groups place (find p (numbers_in os))
-      (is ∙ ap (λ ps. slice_get ps 0) (k.membered group within) ∙ slice_get-map (λ n. groups + n) (objects_that (is_member group) os) 0
-      ∙ ap (option_map (λ n. groups + n)) (sym (first_passing p (numbers_in os))))
+  pub first_listed : slice_get (list_of members group) 0 ≡ find p (numbers_in os)
+  first_listed = ap (λ ns. slice_get ns 0) (k.membered group within) ∙ sym (first_passing p (numbers_in os))
 
   module _ (number : ℕ) (member : p number ≡ true) where
     there : (1 ≤ number) × (number ≤ length os)
     there = that_made (is_member group) os number member
 
-    at : HasPlace p groups number 1 (length os)
-    at = has_place p groups number 1 (length os) member there.0 (omega (arith, there.1))
+    at : IsAmong p number 1 (length os)
+    at = is_among p number 1 (length os) member there.0 (omega (arith, there.1))
 
-    -- a member's place is in the group's list
-    pub owner_listed : AreOwned members → owner_of members (groups + number) ≡ group
+    -- a member is in the group's list
+    pub owner_listed : AreOwned members → owner_of members number ≡ group
     owner_listed owned =
-        eqb-true (owner_of members (groups + number)) group
-        (tally_true (owner_of members (groups + number) == group)
-        (omega (arith, owned.once group (groups + number) (omega (arith, within, k.lists)), ap (times (groups + number)) (k.membered group within), at.listed)))
+        eqb-true (owner_of members number) group
+        (tally_true (owner_of members number == group)
+        (omega (arith, owned.once group number (omega (arith, within, k.lists)), ap (times number) (k.membered group within), at.listed)))
       where
         tally_true : (b : Bool) → 1 ≤ tally b → b ≡ true
         tally_true true h = refl
         tally_true false h = absurd (omega (arith, h))
 
-    pub next_listed : (place : Option ℕ) → AreOwned members → place ≡ place_after (groups + number) (list_of members (owner_of members (groups + number))) → IsPlaceOf groups place (find p (range_with_len (number + 1) (length os - number)))
-    next_listed place owned is =
-        is_place groups place (find p (range_with_len (number + 1) (length os - number)))
-        (is ∙ ap (λ g. place_after (groups + number) (list_of members g)) (owner_listed owned) ∙ ap (place_after (groups + number)) (k.membered group within)
-        ∙ at.behind (length os - number) (omega (arith, there.1)))
+    pub next_listed : AreOwned members → place_after number (list_of members (owner_of members number)) ≡ find p (range_with_len (number + 1) (length os - number))
+    next_listed owned =
+        ap (λ g. place_after number (list_of members g)) (owner_listed owned) ∙ ap (place_after number) (k.membered group within)
+        ∙ at.behind (length os - number) (omega (arith, there.1))
 
--- one that was made has its place
+-- one that was made is numbered among them
 pub has_stood : {X : Type 0} (rows : List X) (number : ℕ) → is_some (numbered rows number) ≡ true → (1 ≤ number) × (number ≤ length rows)
 has_stood {X} rows number is = known (numbered rows number) refl is
   where

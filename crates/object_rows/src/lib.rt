@@ -46,7 +46,7 @@ pub struct ObjectRows {
     object_limit: u32,
     groups: Vec<GroupRow>,
     objects: Vec<ObjectRow>,
-    // The list of a group's number has its members; object o is at the place group_limit + o.
+    // The list of a group's number has the numbers of its members.
     members: LinkedLists,
 }
 
@@ -90,7 +90,7 @@ impl ObjectRows {
         requires { groups + 1 + objects < 2 ^ 32 }
         ensures { IfOk result (λ rows. rows ≡ record { group_limit = groups; object_limit = objects; groups = []; objects = [] }) }
     {
-        let members = LinkedLists::open(alloc, groups + 1, objects)?;
+        let members = LinkedLists::open(alloc, groups + 1, objects + 1)?;
         let group_rows = Vec::with_capacity(alloc, groups as usize)?;
         let object_rows = Vec::with_capacity(alloc, objects as usize)?;
         Ok(ObjectRows {
@@ -118,7 +118,8 @@ impl ObjectRows {
         ensures { self.new ≡ record self.old { objects = self.old.objects ++ row ∷ [] } }
     {
         self.objects.push_reserved(row);
-        list_member(&mut self.members, self.group_limit, row.env.group);
+        let number = self.objects.len() as u32;
+        list_member(&mut self.members, self.group_limit, row.env.group, number);
     }
 
     /// Releases an object that was made. It is no member of its group any more.

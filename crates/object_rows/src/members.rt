@@ -1,5 +1,5 @@
-//! The members of groups: an object has a place, behind the lists' own, and is in the list of its group until it
-//! is released. So nothing is searched, and an object leaves in one step. List 0 has the objects that are of no
+//! The members of groups: an object's number is its key, and is in the list of its group until the object is
+//! released. So nothing is searched, and an object leaves in one step. List 0 has the objects that are of no
 //! group. An object of a group above the limit is in no list: nobody asks whether the group of an object was
 //! made, and no such group ever is.
 
@@ -16,29 +16,26 @@ use linked_lists::LinkedLists;
 use steps::Steps;
 use tp_base::ids::{GroupId, ObjectId};
 
-// Makes a place for one more object, last in the list of its group, if that is one of so many.
-pub(crate) fn list_member(members: &mut LinkedLists, groups: u32, group: GroupId)
-    requires { MayList members.old groups }
-    ensures { members.new ≡ with_member members.old groups group }
+// Puts one more object last in the list of its group, if that is one of so many.
+pub(crate) fn list_member(members: &mut LinkedLists, groups: u32, group: GroupId, object: u32)
+    requires { MayList members.old groups object }
+    ensures { members.new ≡ with_member members.old groups group object }
 {
     let mut steps = Steps::new();
-    let place = members.add(0);
     if group.0 <= groups {
-        members.put_last(group.0, place, &mut steps);
+        members.put_last(group.0, object, &mut steps);
     }
 }
 
-// Takes an object's place out of the list that it is in, if it is in one.
+// Takes an object out of the list that it is in, if it is in one.
 pub(crate) fn unlist_member(members: &mut LinkedLists, groups: u32, object: u32)
     requires lists { length members.old.lists ≡ groups + 1 }
-    requires place { groups + object < 2 ^ 32 }
-    ensures after { members.new ≡ without_member members.old groups (groups + object) }
+    ensures after { members.new ≡ without_member members.old groups object }
     ensures owned { AreOwned members.old }
 {
     let mut steps = Steps::new();
-    let place = groups + object;
-    if members.owner(place) <= groups {
-        members.take_out(place, &mut steps);
+    if members.owner(object) <= groups {
+        members.take_out(object, &mut steps);
     }
 }
 
@@ -49,8 +46,7 @@ impl ObjectRows {
         ensures { result ≡ find (is_object_that (is_member_of group.0) self.now.objects) (numbers_in self.now.objects) }
     {
         let mut steps = Steps::new();
-        let place = self.members.first(group.0, &mut steps)?;
-        Some(place - self.group_limit)
+        self.members.first(group.0, &mut steps)
     }
 
     /// The least of the group's members above this one, if there is one. It walks nothing.
@@ -60,11 +56,9 @@ impl ObjectRows {
         ensures { result ≡ find (is_object_that (is_member_of group.0) self.now.objects) (range_with_len (member + 1) (length self.now.objects - member)) }
     {
         let mut steps = Steps::new();
-        let place = self.group_limit + member;
-        // It is asked for what is known by it: a place of the group's list is in that list.
-        let _group = self.members.owner(place);
-        let next = self.members.after(place, &mut steps)?;
-        Some(next - self.group_limit)
+        // It is asked for what is known by it: a key of the group's list is in that list.
+        let _group = self.members.owner(member);
+        self.members.after(member, &mut steps)
     }
 
     /// Whether the object of this number is a member of the group.

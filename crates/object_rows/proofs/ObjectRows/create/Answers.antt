@@ -13,5 +13,5 @@ invariant_of-self c =
       groups_reserved = k.groups_reserved;
       objects_within = omega (arith, ap length c.push_reserved.ensures.items, length-append i.objects.items (c.args.row ∷ []), room);
       objects_reserved = omega (arith, k.objects_reserved, c.push_reserved.ensures.capacity);
-      membered = rw (c.push_reserved.ensures.items, c.list_member.ensures) (membered_created i.group_limit i.object_limit i.objects.items i.members k.membered c.args.row c.requires.unreleased);
+      membered = rw (c.push_reserved.ensures.items, c.list_member.ensures) (membered_created i.group_limit i.object_limit i.objects.items i.members k.membered c.args.row c.requires.unreleased _ (omega (arith, c.len-number.ensures, ap length c.push_reserved.ensures.items, length-append i.objects.items (c.args.row ∷ []))));
     }
