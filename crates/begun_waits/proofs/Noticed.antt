@@ -1,11 +1,10 @@
 -- How the lists of notices are threaded, and what they show as objects come and go.
-use Rattle.std.proofs.Common.{◌≡◌, ◌≢◌, ◌==◌, ◌||◌, ◌+◌, ◌-◌, ℕ, zero, suc, ◌<◌, ◌≤◌, Bool, true, false, not, List, [], ◌∷◌, ◌++◌, None, Some, drop, filter, get_or, length, map, replicate, slice_get, slice_set, refl, sym, ap, ◌∙◌, arith, ⊎_elim}
+use Rattle.std.proofs.Common.{◌≡◌, ◌≢◌, ◌==◌, ◌||◌, ◌+◌, ℕ, zero, suc, ◌<◌, ◌≤◌, Bool, true, false, not, List, [], ◌∷◌, ◌++◌, None, Some, drop, filter, get_or, length, map, replicate, slice_get, slice_set, refl, sym, ap, ◌∙◌, arith, ⊎_elim}
 use Rattle.std.proofs.lemmas.Bool.{cases_eq, cases_lt, eq-eqb, eqb-true, false≢true, ne_eqb}
 use Rattle.std.proofs.lemmas.List.{get_or-set_same, length-map, length-set, map-append, map-set}
 use Rattle.linked_lists.specs.Linked.{AreOwned, IsFree, Linked, list_of, moved, owner_of, tally, times}
-use Rattle.linked_lists.specs.Moved.{IsReached}
 use Rattle.tp_base.specs.declared.ids.ObjectId.{ObjectId}
-use Rattle.begun_waits.specs.Notices.{AreThreaded, IsCleared, Told, is_listed, object_at, objects_at, told_at, with_told}
+use Rattle.begun_waits.specs.Notices.{AreThreaded, IsCleared, Told, is_listed, object_of, objects_of, told_at, with_told}
 
 -- ---- the first of a list
 
@@ -13,7 +12,6 @@ pub record IsFirst (all : Linked) (list place : ℕ) : Type 0 where
   pub rest : List ℕ
   pub is : list_of all list ≡ place ∷ rest
   pub owner : owner_of all place ≡ list
-  pub far : length all.lists ≤ place
   pub others : filter (λ p. not (p == place)) (list_of all list) ≡ rest
 
 tally_true : (b : Bool) → 1 ≤ tally b → b ≡ true
@@ -48,10 +46,6 @@ first_is all list place within owned first = of_list (list_of all list) refl fir
           rest = xs;
           is = is ∙ ap (λ n. n ∷ xs) same;
           owner = owner;
-          far = ⊎_elim
-              (λ (own : place < length all.lists). absurd (omega (arith, within, owner, owned.own place own)))
-              (λ (other : length all.lists ≤ place). other)
-              (cases_lt place (length all.lists));
           others = ap (filter (λ p. not (p == place))) is ∙ rw (eq-eqb x place same) (none_out place xs none);
         }
 
@@ -80,20 +74,20 @@ set_same [] n d y is = refl
 set_same (x ∷ xs) zero d y is = ap (λ z. z ∷ xs) (sym is)
 set_same (x ∷ xs) (suc n) d y is = ap (λ zs. x ∷ zs) (set_same xs n d y is)
 
-module _ (actors objects : ℕ) where
+module _ (objects : ℕ) where
   abbrev pub shown : Linked → Told
-  shown all = record { objects = objects; lists = map (objects_at actors) all.lists }
+  shown all = record { objects = objects; lists = map objects_of all.lists }
 
-  pub shown_at : (all : Linked) (actor : ℕ) → told_at (shown all) actor ≡ objects_at actors (list_of all actor)
+  pub shown_at : (all : Linked) (actor : ℕ) → told_at (shown all) actor ≡ objects_of (list_of all actor)
   shown_at all actor = of_lists all.lists actor
     where
-      of_lists : (ls : List (List ℕ)) (n : ℕ) → get_or (map (objects_at actors) ls) n [] ≡ objects_at actors (get_or ls n [])
+      of_lists : (ls : List (List ℕ)) (n : ℕ) → get_or (map objects_of ls) n [] ≡ objects_of (get_or ls n [])
       of_lists [] n = refl
       of_lists (l ∷ ls) zero = refl
       of_lists (l ∷ ls) (suc n) = of_lists ls n
 
   pub there_in : (all : Linked) (actor : ℕ) → actor < length (shown all).lists → actor < length all.lists
-  there_in all actor there = omega (arith, there, length-map all.lists (objects_at actors))
+  there_in all actor there = omega (arith, there, length-map all.lists objects_of)
 
   pub shown_first : (all : Linked) (actor place : ℕ) → actor < length (shown all).lists → AreOwned all → Some place ≡ slice_get (list_of all actor) 0 → IsFirst all actor place
   shown_first all actor place there owned first = first_is all actor place (there_in all actor there) owned first
@@ -102,120 +96,99 @@ module _ (actors objects : ℕ) where
   pub none_first : (all : Linked) (actor : ℕ) → slice_get (list_of all actor) 0 ≡ None → slice_get (told_at (shown all) actor) 0 ≡ None
   none_first all actor none = ap (λ os. slice_get os 0) (shown_at all actor) ∙ of_list (list_of all actor) none
     where
-      of_list : (xs : List ℕ) → slice_get xs 0 ≡ None → slice_get (objects_at actors xs) 0 ≡ None
+      of_list : (xs : List ℕ) → slice_get xs 0 ≡ None → slice_get (objects_of xs) 0 ≡ None
       of_list [] e = refl
       of_list (x ∷ xs) e = absurd cc
 
-  pub one_first : (all : Linked) (actor place : ℕ) → IsFirst all actor place → slice_get (told_at (shown all) actor) 0 ≡ Some (object_at actors place)
-  one_first all actor place first = ap (λ os. slice_get os 0) (shown_at all actor ∙ ap (objects_at actors) first.is)
+  pub one_first : (all : Linked) (actor place : ℕ) → IsFirst all actor place → slice_get (told_at (shown all) actor) 0 ≡ Some (object_of place)
+  one_first all actor place first = ap (λ os. slice_get os 0) (shown_at all actor ∙ ap objects_of first.is)
 
   -- what is shown where one list has other places
-  pub shown_set : (all : Linked) (place owner list : ℕ) (places : List ℕ) → shown (moved all place owner list places) ≡ with_told (shown all) list (objects_at actors places)
-  shown_set all place owner list places = ap (λ ls. record { objects = objects; lists = ls }) (map-set (objects_at actors) all.lists list places)
+  pub shown_set : (all : Linked) (place owner list : ℕ) (places : List ℕ) → shown (moved all place owner list places) ≡ with_told (shown all) list (objects_of places)
+  shown_set all place owner list places = ap (λ ls. record { objects = objects; lists = ls }) (map-set objects_of all.lists list places)
 
-  pub there_most : (all : Linked) (actor : ℕ) → actor < length (shown all).lists → AreThreaded actors objects all → actor ≤ actors
-  there_most all actor there k = omega (arith, there_in all actor there, k.many)
-
-  pub threaded_moved : (all : Linked) (place owner list : ℕ) (places : List ℕ) → owner ≤ actors → AreThreaded actors objects all → AreThreaded actors objects (moved all place owner list places)
-  threaded_moved all place owner list places most k =
+  pub threaded_moved : (all : Linked) (object owner list : ℕ) (numbers : List ℕ) → owner ≤ length all.lists → AreThreaded objects all → AreThreaded objects (moved all object owner list numbers)
+  threaded_moved all object owner list numbers most k =
+      let many = length-set all.lists list numbers in
       record {
-        many = length-set all.lists list places ∙ k.many;
-        room = k.room;
-        owned = owned_moved all place owner list places actors most (omega (arith, k.many)) k.owned;
-        fits = k.fits;
+        keys = k.keys;
+        owned = λ q. omega (arith, many, owned_moved all object owner list numbers (length all.lists) most (omega arith) k.owned q);
       }
 
   -- ---- an object comes
 
-  pub threaded_reached : (old new : Linked) (place : ℕ) → IsReached old new place → AreThreaded actors objects old → AreThreaded actors objects new
-  threaded_reached old new place reached k =
-      record {
-        many = ap length reached.lists ∙ k.many;
-        room = reached.room ∙ k.room;
-        owned = λ q. omega (arith, reached.owners q, k.owned q);
-        fits = k.fits;
-      }
-
-  listed : (o : ℕ) (xs : List ℕ) → 1 ≤ times (actors + o) xs → is_listed (record { 0 = o }) (objects_at actors xs) ≡ true
+  listed : (o : ℕ) (xs : List ℕ) → 1 ≤ times o xs → is_listed (object_of o) (objects_of xs) ≡ true
   listed o [] there = absurd (omega (arith, there))
   listed o (x ∷ xs) there =
       ⊎_elim
-      (λ (same : x ≡ actors + o). ap (λ b. b || is_listed (record { 0 = o }) (objects_at actors xs)) (eq-eqb (x - actors) o (omega (arith, same))))
-      (λ (apart : x ≢ actors + o). ap (λ b. (x - actors == o) || b) (listed o xs (omega (arith, there, ap tally (ne_eqb x (actors + o) apart)))) ∙ or_true (x - actors == o))
-      (cases_eq x (actors + o))
+      (λ (same : x ≡ o). ap (λ b. b || is_listed (object_of o) (objects_of xs)) (eq-eqb x o same))
+      (λ (apart : x ≢ o). ap (λ b. (x == o) || b) (listed o xs (omega (arith, there, ap tally (ne_eqb x o apart)))) ∙ or_true (x == o))
+      (cases_eq x o)
     where
       or_true : (b : Bool) → (b || true) ≡ true
       or_true true = refl
       or_true false = refl
 
-  -- the place of an object of which no actor has a notice
-  pub free : (old new : Linked) (o : ℕ) → IsReached old new (actors + o) → AreThreaded actors objects old → ((other : ℕ) → is_listed (record { 0 = o }) (told_at (shown old) other) ≡ false) → IsFree new (actors + o)
-  free old new o reached k none =
+  -- an object of which no actor has a notice
+  pub free : (all : Linked) (o : ℕ) → o ≤ objects → AreOwned all → AreThreaded objects all → ((other : ℕ) → is_listed (object_of o) (told_at (shown all) other) ≡ false) → IsFree all o
+  free all o most owned k none =
+      let owner = owner_of all o in
       record {
-        there = reached.there;
-        not_own = omega (arith, ap length reached.lists, k.many);
+        there = omega (arith, most, k.keys);
         in_none = ⊎_elim
-            (λ (within : owner_of new (actors + o) < length new.lists).
-            let once : times (actors + o) (list_of new (owner_of new (actors + o))) ≡ 1 = reached.owned.once (owner_of new (actors + o)) (actors + o) within ∙ ap tally (eq-eqb (owner_of new (actors + o)) (owner_of new (actors + o)) refl) in
-            let here : is_listed (record { 0 = o }) (objects_at actors (list_of new (owner_of new (actors + o)))) ≡ true = listed o (list_of new (owner_of new (actors + o))) (omega (arith, once)) in
-            absurd (false≢true (sym (none (owner_of new (actors + o))) ∙ ap (is_listed (record { 0 = o })) (shown_at old (owner_of new (actors + o)) ∙ ap (λ ls. objects_at actors (get_or ls (owner_of new (actors + o)) [])) (sym reached.lists)) ∙ here)))
-            (λ (past : length new.lists ≤ owner_of new (actors + o)). omega (arith, past, reached.owners (actors + o), k.owned (actors + o), ap length reached.lists, k.many))
-            (cases_lt (owner_of new (actors + o)) (length new.lists));
+            (λ (within : owner < length all.lists).
+            let once : times o (list_of all owner) ≡ 1 = owned.once owner o within ∙ ap tally (eq-eqb owner owner refl) in
+            let here : is_listed (object_of o) (objects_of (list_of all owner)) ≡ true = listed o (list_of all owner) (omega (arith, once)) in
+            absurd (false≢true (sym (none owner) ∙ ap (is_listed (object_of o)) (shown_at all owner) ∙ here)))
+            (λ (past : length all.lists ≤ owner). omega (arith, past, k.owned o))
+            (cases_lt owner (length all.lists));
       }
 
-  pub shown_put : (old new : Linked) (list o owner : ℕ) → IsReached old new (actors + o)
-      → shown (moved new (actors + o) owner list (list_of new list ++ (actors + o) ∷ [])) ≡ with_told (shown old) list (told_at (shown old) list ++ record { 0 = o } ∷ [])
-  shown_put old new list o owner reached =
-      let same : shown new ≡ shown old = ap (λ ls. record { objects = objects; lists = map (objects_at actors) ls }) reached.lists in
-      let number : (actors + o) - actors ≡ o = omega arith in
-      shown_set new (actors + o) owner list (list_of new list ++ (actors + o) ∷ [])
-      ∙ ap (λ os. with_told (shown new) list os) (map-append (object_at actors) (list_of new list) ((actors + o) ∷ []) ∙ ap (λ n. objects_at actors (list_of new list) ++ record { 0 = n } ∷ []) number ∙ ap (λ os. os ++ record { 0 = o } ∷ []) (sym (shown_at new list)))
-      ∙ ap (λ t. with_told t list (told_at t list ++ record { 0 = o } ∷ [])) same
+  pub shown_put : (all : Linked) (list o owner : ℕ) → shown (moved all o owner list (list_of all list ++ o ∷ [])) ≡ with_told (shown all) list (told_at (shown all) list ++ object_of o ∷ [])
+  shown_put all list o owner =
+      shown_set all o owner list (list_of all list ++ o ∷ [])
+      ∙ ap (λ os. with_told (shown all) list os) (map-append object_of (list_of all list) (o ∷ []) ∙ ap (λ os. os ++ object_of o ∷ []) (sym (shown_at all list)))
 
   -- ---- the first goes
 
   pub shown_taken : (all : Linked) (list place owner : ℕ) → (first : IsFirst all list place) → shown (moved all place owner list (filter (λ p. not (p == place)) (list_of all list))) ≡ with_told (shown all) list (drop 1 (told_at (shown all) list))
   shown_taken all list place owner first =
       shown_set all place owner list (filter (λ p. not (p == place)) (list_of all list))
-      ∙ ap (λ os. with_told (shown all) list os) (ap (objects_at actors) first.others ∙ ap (drop 1) (sym (shown_at all list ∙ ap (objects_at actors) first.is)))
+      ∙ ap (λ os. with_told (shown all) list os) (ap objects_of first.others ∙ ap (drop 1) (sym (shown_at all list ∙ ap objects_of first.is)))
 
   -- nothing goes of an empty list
   pub none_taken : (all : Linked) (list : ℕ) → slice_get (list_of all list) 0 ≡ None → shown all ≡ with_told (shown all) list (drop 1 (told_at (shown all) list))
   none_taken all list none =
       ap (λ ls. record { objects = objects; lists = ls }) (sym (set_same (shown all).lists list [] (drop 1 (told_at (shown all) list)) (of_list (list_of all list) none (told_at (shown all) list) (shown_at all list))))
     where
-      of_list : (xs : List ℕ) → slice_get xs 0 ≡ None → (os : List ObjectId) → os ≡ objects_at actors xs → os ≡ drop 1 os
+      of_list : (xs : List ℕ) → slice_get xs 0 ≡ None → (os : List ObjectId) → os ≡ objects_of xs → os ≡ drop 1 os
       of_list [] e os is = is ∙ sym (ap (drop 1) is)
       of_list (x ∷ xs) e os is = absurd cc
 
   -- ---- all go
 
-  pub threaded_cleared : (old new : Linked) (list : ℕ) → IsCleared old new list → AreThreaded actors objects old → AreThreaded actors objects new
+  pub threaded_cleared : (old new : Linked) (list : ℕ) → IsCleared old new list → AreThreaded objects old → AreThreaded objects new
   threaded_cleared old new list cleared k =
-      record {
-        many = ap length cleared.lists ∙ length-set old.lists list [] ∙ k.many;
-        room = cleared.room ∙ k.room;
-        owned = cleared.owned actors (omega (arith, k.many)) k.owned;
-        fits = k.fits;
-      }
+      let many : length new.lists ≡ length old.lists = ap length cleared.lists ∙ length-set old.lists list [] in
+      record { keys = cleared.keys ∙ k.keys; owned = λ q. omega (arith, many, cleared.owned (length old.lists) (omega arith) k.owned q) }
 
   pub shown_cleared : (old new : Linked) (list : ℕ) → IsCleared old new list → shown new ≡ with_told (shown old) list []
-  shown_cleared old new list cleared = ap (λ ls. record { objects = objects; lists = map (objects_at actors) ls }) cleared.lists ∙ ap (λ ls. record { objects = objects; lists = ls }) (map-set (objects_at actors) old.lists list [])
+  shown_cleared old new list cleared = ap (λ ls. record { objects = objects; lists = map objects_of ls }) cleared.lists ∙ ap (λ ls. record { objects = objects; lists = ls }) (map-set objects_of old.lists list [])
 
 -- some have gone of a list
 pub record IsClearing (old now : Linked) (list : ℕ) : Type 0 where
-  pub room : now.room ≡ old.room
+  pub keys : length now.numbers ≡ length old.numbers
   pub many : length now.lists ≡ length old.lists
   pub others : slice_set now.lists list [] ≡ slice_set old.lists list []
   pub owned : (most : ℕ) → length old.lists ≤ most → ((place : ℕ) → owner_of old place ≤ most) → (place : ℕ) → owner_of now place ≤ most
 
 pub clearing_first : (all : Linked) (list : ℕ) → IsClearing all all list
-clearing_first all list = record { room = refl; many = refl; others = refl; owned = λ most many old. old }
+clearing_first all list = record { keys = refl; many = refl; others = refl; owned = λ most many old. old }
 
 pub clearing_more : (old now : Linked) (list place : ℕ) (places : List ℕ) → IsClearing old now list → IsClearing old (moved now place (length now.lists) list places) list
 clearing_more old now list place places k =
     record {
-      room = k.room;
+      keys = k.keys;
       many = length-set now.lists list places ∙ k.many;
       others = set_twice now.lists list places [] ∙ k.others;
       owned = λ most many below. owned_moved now place (length now.lists) list places most (omega (arith, many, k.many)) (omega (arith, many, k.many)) (k.owned most many below);
@@ -234,7 +207,7 @@ clears all list place owner within first =
 pub all_cleared : (old now : Linked) (list : ℕ) → slice_get (list_of now list) 0 ≡ None → IsClearing old now list → IsCleared old now list
 all_cleared old now list none k =
     record {
-      room = k.room;
+      keys = k.keys;
       lists = sym (set_same now.lists list [] [] (of_list (list_of now list) none)) ∙ k.others;
       owned = k.owned;
     }
@@ -250,6 +223,6 @@ replicate_most zero place most d h = h
 replicate_most (suc n) zero most d h = omega arith
 replicate_most (suc n) (suc place) most d h = replicate_most n place most d h
 
-pub none_shown : (actors objects n : ℕ) → map (objects_at actors) (replicate n []) ≡ replicate n []
-none_shown actors objects zero = refl
-none_shown actors objects (suc n) = ap (λ ls. [] ∷ ls) (none_shown actors objects n)
+pub none_shown : (n : ℕ) → map objects_of (replicate n []) ≡ replicate n []
+none_shown zero = refl
+none_shown (suc n) = ap (λ ls. [] ∷ ls) (none_shown n)

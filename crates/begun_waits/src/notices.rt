@@ -1,5 +1,5 @@
 //! The notices that actors have still to give: for each actor a list of objects. An object is in one of
-//! these lists at most, so that one place for it serves them all, and nothing is searched.
+//! these lists at most, so that its number serves as its key, and nothing is searched.
 
 ghost use Rattle.std.specs.Prelude.{◌≡◌, ℕ, ◌+◌, ◌<◌, ◌≤◌, ◌^◌, ◌++◌, ◌∷◌, [], IfOk, drop, false, length, replicate, slice_get};
 ghost use Rattle.begun_waits.specs.Notices.{IsCleared, is_listed, told_at, with_told};
@@ -13,9 +13,8 @@ use tp_base::ids::ObjectId;
 // For each actor, by its place, the objects of which it has still to give a notice.
 #[derive(Drop)]
 pub(crate) struct Notices {
-    actors: u32,
     objects: u32,
-    // The list of an actor's place has its objects; object o is at the place `actors` + o.
+    // The list of an actor's place has the numbers of its objects.
     lists: LinkedLists,
 }
 
@@ -25,21 +24,20 @@ impl Model for Notices {
 
     ghost Value = { Told };
 
-    ghost use Rattle.begun_waits.specs.Notices.{AreThreaded, objects_at};
+    ghost use Rattle.begun_waits.specs.Notices.{AreThreaded, objects_of};
 
-    ghost view = { λ a. record { objects = a.objects; lists = map (objects_at a.actors) a.lists.lists } };
+    ghost view = { λ a. record { objects = a.objects; lists = map objects_of a.lists.lists } };
 
-    ghost invariant = { λ a. AreThreaded a.actors a.objects a.lists };
+    ghost invariant = { λ a. AreThreaded a.objects a.lists };
 }
 
 impl Notices {
     // None of so many actors, with the memory for objects of the numbers up to `objects`.
     pub(crate) fn open(alloc: Global, actors: u32, objects: u32) -> Result<Notices, AllocError>
-        requires { actors + (objects + 1) < 2 ^ 32 }
+        requires { objects + 1 < 2 ^ 32 }
         ensures { IfOk result (λ notices. notices ≡ record { objects = objects; lists = replicate actors [] }) }
     {
         Ok(Notices {
-            actors,
             objects,
             lists: LinkedLists::open(alloc, actors, objects + 1)?,
         })
@@ -51,8 +49,8 @@ impl Notices {
         ensures { result ≡ slice_get (told_at self.now actor) 0 }
     {
         let mut steps = Steps::new();
-        let place = self.lists.first(actor, &mut steps)?;
-        Some(ObjectId(place - self.actors))
+        let object = self.lists.first(actor, &mut steps)?;
+        Some(ObjectId(object))
     }
 
     // One more object for an actor, behind the others. No actor has a notice of it.
@@ -63,9 +61,9 @@ impl Notices {
         ensures { self.new ≡ with_told self.old actor (told_at self.old actor ++ object ∷ []) }
     {
         let mut steps = Steps::new();
-        let place = self.actors + object.0;
-        self.lists.reach(place);
-        self.lists.put_last(actor, place, &mut steps);
+        // It is asked for what is known by it: a key is in one list at most.
+        let _owner = self.lists.owner(object.0);
+        self.lists.put_last(actor, object.0, &mut steps);
     }
 
     // An actor's first object goes, if it has one.
@@ -74,8 +72,8 @@ impl Notices {
         ensures { self.new ≡ with_told self.old actor (drop 1 (told_at self.old actor)) }
     {
         let mut steps = Steps::new();
-        if let Some(place) = self.lists.first(actor, &mut steps) {
-            self.lists.take_out(place, &mut steps);
+        if let Some(object) = self.lists.first(actor, &mut steps) {
+            self.lists.take_out(object, &mut steps);
         }
     }
 
@@ -89,12 +87,12 @@ impl Notices {
     }
 }
 
-// Takes all places out of a list.
+// Takes all objects out of a list.
 fn clear_list(lists: &mut LinkedLists, list: u32, steps: &mut Steps)
     requires { list < length lists.old.lists }
     ensures { IsCleared lists.old lists.new list }
 {
-    while let Some(place) = lists.first(list, steps) {
-        lists.take_out(place, steps);
+    while let Some(object) = lists.first(list, steps) {
+        lists.take_out(object, steps);
     }
 }

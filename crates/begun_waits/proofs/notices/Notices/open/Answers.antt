@@ -1,4 +1,4 @@
-use Rattle.std.proofs.Common.{[], List, ap, arith, refl, ℕ}
+use Rattle.std.proofs.Common.{◌+◌, [], List, ap, arith, ℕ}
 use Rattle.std.proofs.lemmas.List.{length-replicate}
 use Rattle.begun_waits.proofs.Noticed.{none_shown, replicate_most}
 use Rattle.begun_waits.proofs.notices.Notices.open.Goals as goal
@@ -6,7 +6,7 @@ use Rattle.begun_waits.proofs.notices.Notices.open.Goals as goal
 pub invariant_of-result : goal.invariant_of-result
 invariant_of-result c =
     let many = length-replicate {A = List ℕ} c.args.actors [] in
-    rw c.in_ok-open.ensures (record { many = many; room = refl; owned = λ place. replicate_most c.args.actors place c.args.actors _ (omega (arith, many)); fits = c.requires })
+    rw c.in_ok-open.ensures (record { keys = length-replicate {A = ℕ} (c.args.objects + 1) 0; owned = λ object. rw many (replicate_most (c.args.objects + 1) object c.args.actors c.args.actors (omega arith)) })
 
 pub returns : goal.returns
-returns c = rw c.in_ok-open.ensures (ap (λ ls. record { objects = c.args.objects; lists = ls }) (none_shown c.args.actors c.args.objects c.args.actors))
+returns c = rw c.in_ok-open.ensures (ap (λ ls. record { objects = c.args.objects; lists = ls }) (none_shown c.args.actors))
