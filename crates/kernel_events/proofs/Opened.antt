@@ -5,12 +5,11 @@ use Rattle.std.proofs.lemmas.List.{get_or-replicate, get_or_past, length-replica
 use Rattle.linked_lists.specs.Linked.{Linked, owner_of}
 use Rattle.kernel_events.specs.Threaded.{AreThreaded}
 
--- so many lists, which have no places but their own
+-- so many lists, and keys that are in none
 abbrev pub lists_to : ℕ → ℕ → Linked
-lists_to lists room = record {
-  room = room;
-  numbers = replicate lists 0;
-  owners = replicate lists lists;
+lists_to lists keys = record {
+  numbers = replicate keys 0;
+  owners = replicate keys lists;
   lists = replicate lists [];
 }
 
@@ -19,22 +18,23 @@ no_lists zero list = refl
 no_lists (suc n) zero = refl
 no_lists (suc n) (suc list) = no_lists n list
 
--- no place is in a list
-owner_none : (lists room place : ℕ) → owner_of (lists_to lists room) place ≡ lists
-owner_none lists room place =
+owner_none : (lists keys key : ℕ) → owner_of (lists_to lists keys) key ≡ lists
+owner_none lists keys key =
     ⊎_elim
-    (λ (own : place < lists). get_or-replicate {A = ℕ} lists place lists _ own)
-    (λ (past : lists ≤ place). get_or_past (replicate lists lists) place _ (omega (arith, past, length-replicate {A = ℕ} lists lists)) ∙ length-replicate {A = List ℕ} lists [])
-    (cases_lt place lists)
+    (λ (within : key < keys). get_or-replicate {A = ℕ} keys key lists _ within)
+    (λ (past : keys ≤ key). get_or_past (replicate keys lists) key _ (omega (arith, past, length-replicate {A = ℕ} keys lists)) ∙ length-replicate {A = List ℕ} lists [])
+    (cases_lt key keys)
 
-pub opened : (kernels objects : ℕ) → kernels + objects + 1 < 2 ^ 32 → AreThreaded kernels objects (lists_to 1 (1 + objects)) (lists_to (kernels + 1) (kernels + 1 + objects))
-opened kernels objects fits = record {
-  fits = fits;
+pub opened : (kernels objects : ℕ) → AreThreaded kernels objects (lists_to 1 (objects + 1)) (lists_to (kernels + 1) (objects + 1))
+opened kernels objects = record {
   one_list = length-replicate {A = List ℕ} 1 [];
   own_lists = length-replicate {A = List ℕ} (kernels + 1) [];
-  room = omega arith;
-  own_room = omega arith;
-  beyond = λ object past. owner_none 1 (1 + objects) object;
-  paired = λ object least most. inl (owner_none 1 (1 + objects) object, owner_none (kernels + 1) (kernels + 1 + objects) (kernels + object));
+  keys = length-replicate {A = ℕ} (objects + 1) 0;
+  own_keys = length-replicate {A = ℕ} (objects + 1) 0;
+  held = length-replicate {A = ℕ} (objects + 1) 1;
+  own_held = length-replicate {A = ℕ} (objects + 1) (kernels + 1);
+  zero = owner_none 1 (objects + 1) 0;
+  beyond = λ object past. owner_none 1 (objects + 1) object;
+  paired = λ object. inl (owner_none 1 (objects + 1) object, owner_none (kernels + 1) (objects + 1) object);
   threads = λ kernel. no_lists (kernels + 1) kernel;
 }

@@ -3,18 +3,17 @@ use Rattle.std.proofs.Common.{◌≡◌, ◌≢◌, ◌==◌, ◌+◌, ℕ, ◌<
 use Rattle.std.proofs.lemmas.Bool.{cases_eq, cases_lt, eq-eqb, ne_eqb}
 use Rattle.std.proofs.lemmas.List.{append-nil, length-set, get_or_past, get_or-set_same, get_or-set_other, map-append}
 use Rattle.std.proofs.lemmas.List.Elements.{filter-append}
-use Rattle.linked_lists.specs.Linked.{AreOwned, IsFree, Linked, list_of, moved, owner_of, tally, times}
-use Rattle.linked_lists.specs.Moved.{IsReached}
+use Rattle.linked_lists.specs.Linked.{Linked, list_of, moved, owner_of, times}
 use Rattle.tp_base.specs.declared.rows.Arming.{Arming}
 use Rattle.tp_base.specs.Armings.{without_arming}
 use Rattle.kernel_events.specs.Armed.{Armed}
-use Rattle.kernel_events.specs.Threaded.{AreThreaded, ArePaired, arming_at, armings_of, objects_on}
+use Rattle.kernel_events.specs.Threaded.{AreThreaded, ArePaired, arming_of, armings_of, objects_on}
 use Rattle.kernel_events.proofs.Rows.{armings_left, left_other, left_own, same_armings, same_objects, without}
 
 abbrev pub armed_as : ℕ → ℕ → List Arming → Armed
 armed_as kernels objects armed = record { kernels = kernels; objects = objects; armed = armed }
 
--- ---- a place has moved
+-- ---- a key has moved
 
 module _ (all : Linked) (place owner list : ℕ) (places : List ℕ) where
   pub owner_here : place < length all.owners → owner_of (moved all place owner list places) place ≡ owner
@@ -29,84 +28,56 @@ module _ (all : Linked) (place owner list : ℕ) (places : List ℕ) where
   pub list_there : (l : ℕ) → l ≢ list → list_of (moved all place owner list places) l ≡ list_of all l
   list_there l apart = get_or-set_other all.lists list l places [] apart
 
--- ---- places are made
+-- what is in a list is a key
+pub in_list : (all : Linked) (key : ℕ) → owner_of all key < length all.lists → key < length all.owners
+in_list all key owned =
+    ⊎_elim
+    (λ (within : key < length all.owners). within)
+    (λ (past : length all.owners ≤ key). absurd (omega (arith, owned, get_or_past all.owners key (length all.lists) past)))
+    (cases_lt key (length all.owners))
 
--- these with places up to one at least, which are in no list
-pub record IsWider (all wider : Linked) (place : ℕ) : Type 0 where
-  pub room : wider.room ≡ all.room
-  pub lists : wider.lists ≡ all.lists
-  pub owners : (q : ℕ) → owner_of wider q ≡ owner_of all q
-  pub held : place < length wider.owners
+-- ---- an object in the list of all, and in those of kernel objects
 
-pub reached : (all wider : Linked) (place : ℕ) → IsReached all wider place → IsWider all wider place
-reached all wider place is = record { room = is.room; lists = is.lists; owners = is.owners; held = is.held }
+module _ (kernels objects : ℕ) (order own : Linked) (are : AreThreaded kernels objects order own) (object : ℕ) (least : 1 ≤ object) (most : object ≤ objects) where
+  held : object < length order.owners
+  held = omega (arith, most, are.held)
 
-pub free_there : (all wider : Linked) (place : ℕ) → IsReached all wider place → length all.lists ≤ place → owner_of all place ≡ length all.lists → IsFree wider place
-free_there all wider place is above none = record {
-  there = is.there;
-  not_own = omega (arith, above, ap length is.lists);
-  in_none = is.owners place ∙ none ∙ sym (ap length is.lists);
-}
-
-pub owned_before : (all wider : Linked) (place : ℕ) → IsReached all wider place → AreOwned all
-owned_before all wider place is = record {
-  once = λ list q within. ap (λ ls. times q (slice_index_or ls list [])) (sym is.lists) ∙ is.owned.once list q (omega (arith, within, ap length is.lists)) ∙ ap (λ n. tally (n == list)) (is.owners q);
-  own = λ list within. sym (is.owners list) ∙ is.owned.own list (omega (arith, within, ap length is.lists)) ∙ ap length is.lists;
-}
-
--- what is in a list has a place
-pub in_list : (all : Linked) (place : ℕ) → owner_of all place < length all.lists → IsWider all all place
-in_list all place owned = record {
-  room = refl;
-  lists = refl;
-  owners = λ q. refl;
-  held =
-      ⊎_elim
-      (λ (within : place < length all.owners). within)
-      (λ (past : length all.owners ≤ place). absurd (omega (arith, owned, get_or_past all.owners place (length all.lists) past)))
-      (cases_lt place (length all.owners));
-}
-
--- ---- an object's place in the list of all, and that in those of kernel objects
-
-module _ (kernels objects : ℕ) (order own wider own_wider : Linked) (are : AreThreaded kernels objects order own) (object : ℕ) (wide : IsWider order wider object) (own_wide : IsWider own own_wider (kernels + object)) (least : 1 ≤ object) (most : object ≤ objects) where
-  list_same : (l : ℕ) → list_of own_wider l ≡ list_of own l
-  list_same l = ap (λ ls. slice_index_or ls l []) own_wide.lists
-
-  all_same : list_of wider 0 ≡ list_of order 0
-  all_same = ap (λ ls. slice_index_or ls 0 []) wide.lists
+  own_held : object < length own.owners
+  own_held = omega (arith, most, are.own_held)
 
   module _ (owner own_owner list : ℕ) (order_places own_places : List ℕ) where
     abbrev order_new : Linked
-    order_new = moved wider object owner 0 order_places
+    order_new = moved order object owner 0 order_places
 
     abbrev own_new : Linked
-    own_new = moved own_wider (kernels + object) own_owner list own_places
+    own_new = moved own object own_owner list own_places
 
-    there : (o : ℕ) → o ≢ object → owner_of own_new (kernels + o) ≡ owner_of own (kernels + o)
-    there o apart = owner_there own_wider (kernels + object) own_owner list own_places (kernels + o) (λ same. apart (omega (arith, same))) ∙ own_wide.owners (kernels + o)
+    there : (o : ℕ) → o ≢ object → owner_of own_new o ≡ owner_of own o
+    there o apart = owner_there own object own_owner list own_places o apart
 
-    here : owner_of own_new (kernels + object) ≡ own_owner
-    here = owner_here own_wider (kernels + object) own_owner list own_places own_wide.held
+    here : owner_of own_new object ≡ own_owner
+    here = owner_here own object own_owner list own_places own_held
 
     other : (o : ℕ) → o ≢ object → owner_of order_new o ≡ owner_of order o
-    other o apart = owner_there wider object owner 0 order_places o apart ∙ wide.owners o
+    other o apart = owner_there order object owner 0 order_places o apart
 
     all_now : list_of order_new 0 ≡ order_places
-    all_now = list_here wider object owner 0 order_places (omega (arith, ap length wide.lists, are.one_list))
+    all_now = list_here order object owner 0 order_places (omega (arith, are.one_list))
 
-    kept : ArePaired kernels owner own_owner → ((k : ℕ) → list_of own_new k ≡ map (λ o. kernels + o) (objects_on kernels own_new k order_places)) → AreThreaded kernels objects order_new own_new
+    kept : ArePaired kernels owner own_owner → ((k : ℕ) → list_of own_new k ≡ objects_on own_new k order_places) → AreThreaded kernels objects order_new own_new
     kept pair threads = record {
-      fits = are.fits;
-      one_list = length-set wider.lists 0 order_places ∙ ap length wide.lists ∙ are.one_list;
-      own_lists = length-set own_wider.lists list own_places ∙ ap length own_wide.lists ∙ are.own_lists;
-      room = wide.room ∙ are.room;
-      own_room = own_wide.room ∙ are.own_room;
+      one_list = length-set order.lists 0 order_places ∙ are.one_list;
+      own_lists = length-set own.lists list own_places ∙ are.own_lists;
+      keys = are.keys;
+      own_keys = are.own_keys;
+      held = length-set order.owners object owner ∙ are.held;
+      own_held = length-set own.owners object own_owner ∙ are.own_held;
+      zero = other 0 (λ same. absurd (omega (arith, same, least))) ∙ are.zero;
       beyond = λ o past. other o (λ same. absurd (omega (arith, same, past, most))) ∙ are.beyond o past;
-      paired = λ o le lt.
+      paired = λ o.
           ⊎_elim
-          (λ (is : o ≡ object). rw (is, owner_here wider object owner 0 order_places wide.held, here) pair)
-          (λ (apart : o ≢ object). rw (other o apart, there o apart) (are.paired o le lt))
+          (λ (is : o ≡ object). rw (is, owner_here order object owner 0 order_places held, here) pair)
+          (λ (apart : o ≢ object). rw (other o apart, there o apart) (are.paired o))
           (cases_eq o object);
       threads = λ k. rw all_now (threads k);
     }
@@ -115,95 +86,80 @@ module _ (kernels objects : ℕ) (order own wider own_wider : Linked) (are : Are
 
   module _ (kernel : ℕ) (known : kernel ≤ kernels) (none : times object (list_of order 0) ≡ 0) where
     abbrev order_with : Linked
-    order_with = moved wider object 0 0 (list_of order 0 ++ object ∷ [])
+    order_with = moved order object 0 0 (list_of order 0 ++ object ∷ [])
 
     abbrev own_with : Linked
-    own_with = moved own_wider (kernels + object) kernel kernel (list_of own kernel ++ (kernels + object) ∷ [])
+    own_with = moved own object kernel kernel (list_of own kernel ++ object ∷ [])
 
-    there_with : (o : ℕ) → o ≢ object → owner_of own_with (kernels + o) ≡ owner_of own (kernels + o)
-    there_with = there 0 kernel kernel (list_of order 0 ++ object ∷ []) (list_of own kernel ++ (kernels + object) ∷ [])
+    there_with : (o : ℕ) → o ≢ object → owner_of own_with o ≡ owner_of own o
+    there_with = there 0 kernel kernel (list_of order 0 ++ object ∷ []) (list_of own kernel ++ object ∷ [])
 
-    here_with : owner_of own_with (kernels + object) ≡ kernel
-    here_with = here 0 kernel kernel (list_of order 0 ++ object ∷ []) (list_of own kernel ++ (kernels + object) ∷ [])
+    here_with : owner_of own_with object ≡ kernel
+    here_with = here 0 kernel kernel (list_of order 0 ++ object ∷ []) (list_of own kernel ++ object ∷ [])
 
-    with_objects : (k : ℕ) → objects_on kernels own_with k (list_of order 0 ++ object ∷ []) ≡ objects_on kernels own k (list_of order 0) ++ objects_on kernels own_with k (object ∷ [])
+    with_objects : (k : ℕ) → objects_on own_with k (list_of order 0 ++ object ∷ []) ≡ objects_on own k (list_of order 0) ++ objects_on own_with k (object ∷ [])
     with_objects k =
-        filter-append (λ o. owner_of own_with (kernels + o) == k) (list_of order 0) (object ∷ [])
-        ∙ ap (λ xs. xs ++ objects_on kernels own_with k (object ∷ [])) (same_objects kernels object own own_with there_with k (list_of order 0) none)
+        filter-append (λ o. owner_of own_with o == k) (list_of order 0) (object ∷ [])
+        ∙ ap (λ xs. xs ++ objects_on own_with k (object ∷ [])) (same_objects object own own_with there_with k (list_of order 0) none)
 
-    armed_with : AreThreaded kernels objects order_with own_with
+    pub armed_with : AreThreaded kernels objects order_with own_with
     armed_with =
-        kept 0 kernel kernel (list_of order 0 ++ object ∷ []) (list_of own kernel ++ (kernels + object) ∷ []) (inr (refl, known))
+        kept 0 kernel kernel (list_of order 0 ++ object ∷ []) (list_of own kernel ++ object ∷ []) (inr (refl, known))
         (λ k.
         ⊎_elim
         (λ (is : k ≡ kernel).
-        let on : (owner_of own_with (kernels + object) == k) ≡ true = eq-eqb _ _ (here_with ∙ sym is) in
+        let on : (owner_of own_with object == k) ≡ true = eq-eqb _ _ (here_with ∙ sym is) in
         rw (with_objects k, on)
         (ap (λ l. list_of own_with l) is
-        ∙ list_here own_wider (kernels + object) kernel kernel (list_of own kernel ++ (kernels + object) ∷ []) (omega (arith, known, ap length own_wide.lists, are.own_lists))
-        ∙ ap (λ l. list_of own l ++ (kernels + object) ∷ []) (sym is)
-        ∙ ap (λ xs. xs ++ (kernels + object) ∷ []) (are.threads k)
-        ∙ sym (map-append (λ o. kernels + o) (objects_on kernels own k (list_of order 0)) (object ∷ []))))
+        ∙ list_here own object kernel kernel (list_of own kernel ++ object ∷ []) (omega (arith, known, are.own_lists))
+        ∙ ap (λ l. list_of own l ++ object ∷ []) (sym is)
+        ∙ ap (λ xs. xs ++ object ∷ []) (are.threads k)))
         (λ (apart : k ≢ kernel).
-        let off : (owner_of own_with (kernels + object) == k) ≡ false = ne_eqb _ _ (λ same. apart (sym same ∙ here_with)) in
-        rw (with_objects k, off, append-nil (objects_on kernels own k (list_of order 0)))
-        (list_there own_wider (kernels + object) kernel kernel (list_of own kernel ++ (kernels + object) ∷ []) k apart ∙ list_same k ∙ are.threads k))
+        let off : (owner_of own_with object == k) ≡ false = ne_eqb _ _ (λ same. apart (sym same ∙ here_with)) in
+        rw (with_objects k, off, append-nil (objects_on own k (list_of order 0)))
+        (list_there own object kernel kernel (list_of own kernel ++ object ∷ []) k apart ∙ are.threads k))
         (cases_eq k kernel))
 
-    armings_with : armings_of kernels own_with (list_of order_with 0) ≡ armings_of kernels own (list_of order 0) ++ record { object = record { 0 = object }; kernel = record { 0 = kernel } } ∷ []
+    pub armings_with : armings_of own_with (list_of order_with 0) ≡ armings_of own (list_of order 0) ++ record { object = record { 0 = object }; kernel = record { 0 = kernel } } ∷ []
     armings_with =
-        ap (armings_of kernels own_with) (all_now 0 kernel kernel (list_of order 0 ++ object ∷ []) (list_of own kernel ++ (kernels + object) ∷ []))
-        ∙ map-append (arming_at kernels own_with) (list_of order 0) (object ∷ [])
-        ∙ ap (λ xs. xs ++ arming_at kernels own_with object ∷ []) (same_armings kernels object own own_with there_with (list_of order 0) none)
-        ∙ ap (λ k. armings_of kernels own (list_of order 0) ++ arming k ∷ []) here_with
+        ap (armings_of own_with) (all_now 0 kernel kernel (list_of order 0 ++ object ∷ []) (list_of own kernel ++ object ∷ []))
+        ∙ map-append (arming_of own_with) (list_of order 0) (object ∷ [])
+        ∙ ap (λ xs. xs ++ arming_of own_with object ∷ []) (same_armings object own own_with there_with (list_of order 0) none)
+        ∙ ap (λ k. armings_of own (list_of order 0) ++ arming k ∷ []) here_with
       where
         arming : ℕ → Arming
         arming k = record { object = record { 0 = object }; kernel = record { 0 = k } }
 
-    -- as they are put there
-    abbrev pub order_put : Linked
-    order_put = moved wider object 0 0 (list_of wider 0 ++ object ∷ [])
-
-    abbrev pub own_put : Linked
-    own_put = moved own_wider (kernels + object) kernel kernel (list_of own_wider kernel ++ (kernels + object) ∷ [])
-
-    pub armed : AreThreaded kernels objects order_put own_put
-    armed = rw (all_same, list_same kernel) armed_with
-
-    pub armings_put : armings_of kernels own_put (list_of order_put 0) ≡ armings_of kernels own (list_of order 0) ++ record { object = record { 0 = object }; kernel = record { 0 = kernel } } ∷ []
-    armings_put = rw (all_same, list_same kernel) armings_with
-
   -- ---- it is disarmed
 
-  module _ (kernel : ℕ) (known : kernel ≤ kernels) (on : owner_of own (kernels + object) ≡ kernel) where
+  module _ (kernel : ℕ) (known : kernel ≤ kernels) (on : owner_of own object ≡ kernel) where
     abbrev order_without : Linked
-    order_without = moved wider object (length order.lists) 0 (without object (list_of order 0))
+    order_without = moved order object (length order.lists) 0 (without object (list_of order 0))
 
     abbrev own_without : Linked
-    own_without = moved own_wider (kernels + object) (length own.lists) kernel (without (kernels + object) (list_of own kernel))
+    own_without = moved own object (length own.lists) kernel (without object (list_of own kernel))
 
-    there_without : (o : ℕ) → o ≢ object → owner_of own_without (kernels + o) ≡ owner_of own (kernels + o)
-    there_without = there (length order.lists) (length own.lists) kernel (without object (list_of order 0)) (without (kernels + object) (list_of own kernel))
+    there_without : (o : ℕ) → o ≢ object → owner_of own_without o ≡ owner_of own o
+    there_without = there (length order.lists) (length own.lists) kernel (without object (list_of order 0)) (without object (list_of own kernel))
 
     pub disarmed : AreThreaded kernels objects order_without own_without
     disarmed =
-        kept (length order.lists) (length own.lists) kernel (without object (list_of order 0)) (without (kernels + object) (list_of own kernel)) (inl (are.one_list, are.own_lists))
+        kept (length order.lists) (length own.lists) kernel (without object (list_of order 0)) (without object (list_of own kernel)) (inl (are.one_list, are.own_lists))
         (λ k.
         ⊎_elim
         (λ (is : k ≡ kernel).
         ap (λ l. list_of own_without l) is
-        ∙ list_here own_wider (kernels + object) (length own.lists) kernel (without (kernels + object) (list_of own kernel)) (omega (arith, known, ap length own_wide.lists, are.own_lists))
-        ∙ ap (λ l. without (kernels + object) (list_of own l)) (sym is)
-        ∙ ap (without (kernels + object)) (are.threads k)
-        ∙ left_own kernels object own own_without there_without k (list_of order 0))
+        ∙ list_here own object (length own.lists) kernel (without object (list_of own kernel)) (omega (arith, known, are.own_lists))
+        ∙ ap (λ l. without object (list_of own l)) (sym is)
+        ∙ ap (without object) (are.threads k)
+        ∙ left_own object own own_without there_without k (list_of order 0))
         (λ (apart : k ≢ kernel).
-        list_there own_wider (kernels + object) (length own.lists) kernel (without (kernels + object) (list_of own kernel)) k apart
-        ∙ list_same k
+        list_there own object (length own.lists) kernel (without object (list_of own kernel)) k apart
         ∙ are.threads k
-        ∙ ap (map (λ o. kernels + o)) (left_other kernels object own own_without there_without k (ne_eqb _ _ (λ same. apart (sym same ∙ on))) (list_of order 0)))
+        ∙ left_other object own own_without there_without k (ne_eqb _ _ (λ same. apart (sym same ∙ on))) (list_of order 0))
         (cases_eq k kernel))
 
-    pub armings_without : armings_of kernels own_without (list_of order_without 0) ≡ without_arming object (armings_of kernels own (list_of order 0))
+    pub armings_without : armings_of own_without (list_of order_without 0) ≡ without_arming object (armings_of own (list_of order 0))
     armings_without =
-        ap (armings_of kernels own_without) (all_now (length order.lists) (length own.lists) kernel (without object (list_of order 0)) (without (kernels + object) (list_of own kernel)))
-        ∙ armings_left kernels object own own_without there_without (list_of order 0)
+        ap (armings_of own_without) (all_now (length order.lists) (length own.lists) kernel (without object (list_of order 0)) (without object (list_of own kernel)))
+        ∙ armings_left object own own_without there_without (list_of order 0)

@@ -1,7 +1,7 @@
 //! The wait objects that are armed: a list of all in the order of arming, and one for each kernel
 //! object.
 
-ghost use Rattle.std.specs.Prelude.{◌≡◌, ◌≤◌, ◌++◌, ◌∷◌, [], All, IfOk, false, if◌then◌else◌, length, min, nat_le};
+ghost use Rattle.std.specs.Prelude.{◌≡◌, ◌≤◌, ◌++◌, ◌∷◌, [], All, IfOk, false, length, min};
 ghost use Rattle.tp_base.specs.Armings.{is_armed, without_arming};
 ghost use Rattle.kernel_events.specs.Armed.{HasDistinctObjects, first_on, waits_on};
 
@@ -17,10 +17,9 @@ pub(crate) struct Armings {
     // The greatest numbers of a kernel object and of a wait object.
     kernels: u32,
     objects: u32,
-    // Its list 0 has all that are armed; object o is at the place o. A place is made as it is first needed.
+    // Its list 0 has the numbers of all that are armed.
     order: LinkedLists,
-    // The list of a kernel object's number has those that are armed on it; object o is at the place
-    // `kernels` + o.
+    // The list of a kernel object's number has those that are armed on it.
     own: LinkedLists,
 }
 
@@ -34,7 +33,7 @@ impl Model for Armings {
     ghost view = { λ a. record {
       kernels = a.kernels;
       objects = a.objects;
-      armed = armings_of a.kernels a.own (list_of a.order 0);
+      armed = armings_of a.own (list_of a.order 0);
     } };
 
     ghost invariant = { λ a. AreThreaded a.kernels a.objects a.order a.own };
@@ -44,31 +43,20 @@ impl Armings {
     // Nothing is armed. There is memory for the kernel objects of the numbers up to `kernels`, and the
     // wait objects of those up to `objects`.
     //
-    // An `AllocError` comes where that memory can't be had, or where there would be more places than
-    // a u32 counts.
+    // An `AllocError` comes where that memory can't be had, or where there would be more of either than a
+    // u32 counts.
     pub(crate) fn open(alloc: Global, kernels: u32, objects: u32) -> Result<Armings, AllocError>
         ensures { IfOk result (λ armings. armings ≡ record { kernels = kernels; objects = objects; armed = [] }) }
     {
-        if kernels as u64 + objects as u64 >= u32::MAX as u64 {
+        if kernels == u32::MAX || objects == u32::MAX {
             return Err(AllocError);
         }
         Ok(Armings {
             kernels,
             objects,
-            order: LinkedLists::open(alloc, 1, objects)?,
-            own: LinkedLists::open(alloc, kernels + 1, objects)?,
+            order: LinkedLists::open(alloc, 1, objects + 1)?,
+            own: LinkedLists::open(alloc, kernels + 1, objects + 1)?,
         })
-    }
-
-    // The place of a wait object in the list of all, or the list's own where there is no such object.
-    fn place(&self, object: ObjectId) -> u32
-        ensures { result ≡ if nat_le object.0 self.now.objects then object.0 else 0 }
-    {
-        if object.0 <= self.objects {
-            object.0
-        } else {
-            0
-        }
     }
 
     // Whether a wait object is armed. None is armed twice.
@@ -78,7 +66,7 @@ impl Armings {
         ensures least { All (λ a. 1 ≤ a.object.0) self.now.armed }
         ensures most { All (λ a. a.object.0 ≤ self.now.objects) self.now.armed }
     {
-        self.order.owner(self.place(object)) == 0
+        self.order.owner(object.0) == 0
     }
 
     // The wait object that was armed earliest on a kernel object.
@@ -89,8 +77,8 @@ impl Armings {
             return None;
         }
         let mut steps = Steps::new();
-        let place = self.own.first(kernel.0, &mut steps)?;
-        Some(ObjectId(place - self.kernels))
+        let object = self.own.first(kernel.0, &mut steps)?;
+        Some(ObjectId(object))
     }
 
     // How many wait objects are armed on a kernel object, but no more than `most`.
@@ -112,11 +100,10 @@ impl Armings {
         ensures { self.new ≡ record self.old { armed = self.old.armed ++ record { object = object; kernel = kernel } ∷ [] } }
     {
         let mut steps = Steps::new();
-        let own_place = self.kernels + object.0;
-        self.order.reach(object.0);
-        self.own.reach(own_place);
+        // It is asked for what is known by it: a key is in one list at most.
+        let _owner = self.order.owner(object.0);
         self.order.put_last(0, object.0, &mut steps);
-        self.own.put_last(kernel.0, own_place, &mut steps);
+        self.own.put_last(kernel.0, object.0, &mut steps);
     }
 
     // Disarms a wait object, and says whether it was armed.
@@ -124,13 +111,12 @@ impl Armings {
         ensures was { result ≡ is_armed object.0 self.old.armed }
         ensures after { self.new ≡ record self.old { armed = without_arming object.0 self.old.armed } }
     {
-        let place = self.place(object);
-        if self.order.owner(place) != 0 {
+        if self.order.owner(object.0) != 0 {
             return false;
         }
         let mut steps = Steps::new();
-        self.order.take_out(place, &mut steps);
-        self.own.take_out(self.kernels + place, &mut steps);
+        self.order.take_out(object.0, &mut steps);
+        self.own.take_out(object.0, &mut steps);
         true
     }
 }

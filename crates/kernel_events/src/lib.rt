@@ -18,9 +18,8 @@
 //! ```
 //!
 //! What a call costs: each looks at one kernel object, and at the neighbours of at most one armed
-//! wait (`linked_lists`). `arm` makes the places of the objects up to its own that have none yet, so that
-//! all armings together make one for each. The memory is some fifty bytes for each kernel object, and
-//! forty for each wait object.
+//! wait (`linked_lists`). The memory is some seventy bytes for each kernel object, and as many for each wait
+//! object, filled as far as they are used.
 
 #![tactic(auto)]
 
