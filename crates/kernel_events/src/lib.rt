@@ -18,7 +18,7 @@
 //! ```
 //!
 //! What a call costs: each looks at one kernel object, and at the neighbours of at most one armed
-//! wait (`linked_lists`). The memory is some seventy bytes for each kernel object, and as many for each wait
+//! wait (`linked_lists`). The memory is some sixty bytes for each kernel object, and seventy for each wait
 //! object, filled as far as they are used.
 
 #![tactic(auto)]

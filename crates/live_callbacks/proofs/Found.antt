@@ -1,5 +1,5 @@
 -- What the lists tell of the rows.
-use Rattle.std.proofs.Common.{◌≡◌, ◌≢◌, ℕ, ◌+◌, ◌-◌, ◌<◌, Bool, true, false, not, ◌&&◌, ◌==◌, List, [], ◌∷◌, ◌++◌, Option, Some, None, refl, sym, ap, ap₂, subst, ◌∙◌, arith}
+use Rattle.std.proofs.Common.{◌≡◌, ◌≢◌, ℕ, ◌<◌, Bool, true, false, not, ◌&&◌, ◌==◌, List, [], ◌∷◌, ◌++◌, Option, Some, None, refl, sym, ap, ap₂, subst, ◌∙◌, arith}
 use Rattle.std.proofs.Common.{filter, find, length, map, nat_lt, if◌then◌else◌, slice_get, eq-eqb, option_map, le-ltb, lt-ltb}
 use Rattle.std.specs.Prelude.{IfSome, is_some}
 use Rattle.std.specs.List.{AllByRecursion, list_any}
@@ -8,10 +8,10 @@ use Rattle.std.proofs.lemmas.Bool.Decides.{nat_tests}
 use Rattle.tp_base.specs.declared.rows.CallbackRow.{CallbackRow}
 use Rattle.tp_model.proofs.Lists.{find_all}
 use Rattle.linked_lists.specs.Linked.{Linked, list_of, owner_of, place_after}
-use Rattle.live_callbacks.specs.Held.{AreApart, Held, IsHeldAt, row_behind, rows_of}
-use Rattle.live_callbacks.specs.Lists.{AreListed, Mark, mark, marks, places_in}
+use Rattle.live_callbacks.specs.Held.{AreApart, Held, IsHeldUnder, row_under, rows_of}
+use Rattle.live_callbacks.specs.Lists.{AreListed, Mark, mark, marks, keys_in}
 use Rattle.live_callbacks.proofs.Parts.{Parts, before, own_list}
-use Rattle.live_callbacks.proofs.Settled.{places-append}
+use Rattle.live_callbacks.proofs.Settled.{keys-append}
 
 -- ---- tests
 
@@ -66,69 +66,66 @@ keyed t (g ∷ hs) h apart found =
           ap (λ b. if b then Some g else find (λ (x : Held). x.key == h.key) hs) (ne_eqb g.key h.key (λ e. other (sym e))) ∙ keyed t hs h apart.1 later
     ] found
 
-module _ (heads : ℕ) (hs : List Held) (apart : AreApart hs) where
-  abbrev pub place_of : Option Held → Option ℕ
-  place_of o = option_map (λ (h : Held). heads + h.key) o
+module _ (hs : List Held) (apart : AreApart hs) where
+  abbrev pub key_of : Option Held → Option ℕ
+  key_of o = option_map (λ (h : Held). h.key) o
 
-  by_place : (h : Held) → find (λ (g : Held). g.key == h.key) hs ≡ Some h → find (λ (g : Held). g.key == heads + h.key - heads) hs ≡ Some h
-  by_place h found = let back : heads + h.key - heads ≡ h.key = omega arith in ap (λ k. find (λ (g : Held). g.key == k) hs) back ∙ found
+  held_under : (o : Option Held) → ((h : Held) → o ≡ Some h → find (λ (g : Held). g.key == h.key) hs ≡ Some h) → IfSome (key_of o) (IsHeldUnder hs)
+  held_under None at = tt
+  held_under (Some h) at = ap is_some (at h refl)
 
-  held_at : (o : Option Held) → ((h : Held) → o ≡ Some h → find (λ (g : Held). g.key == h.key) hs ≡ Some h) → IfSome (place_of o) (IsHeldAt heads hs)
-  held_at None at = tt
-  held_at (Some h) at = (omega arith, ap is_some (by_place h (at h refl)))
+  row_at_key : (o : Option Held) → ((h : Held) → o ≡ Some h → find (λ (g : Held). g.key == h.key) hs ≡ Some h) → row_under hs (key_of o) ≡ option_map (λ (h : Held). h.row) o
+  row_at_key None at = refl
+  row_at_key (Some h) at = ap (option_map (λ (g : Held). g.row)) (at h refl)
 
-  row_at_place : (o : Option Held) → ((h : Held) → o ≡ Some h → find (λ (g : Held). g.key == h.key) hs ≡ Some h) → row_behind heads hs (place_of o) ≡ option_map (λ (h : Held). h.row) o
-  row_at_place None at = refl
-  row_at_place (Some h) at = ap (option_map (λ (g : Held). g.row)) (by_place h (at h refl))
+  -- the key of what a test finds
+  module _ (t : CallbackRow → Bool) (key : Option ℕ) (is : key ≡ key_of (find (λ h. t h.row) hs)) where
+    pub found_held : IfSome key (IsHeldUnder hs)
+    found_held = subst (λ o. IfSome o (IsHeldUnder hs)) (sym is) (held_under (find (λ h. t h.row) hs) (λ h found. keyed (λ g. t g.row) hs h apart found))
 
-  -- the place of what a test finds
-  module _ (t : CallbackRow → Bool) (place : Option ℕ) (is : place ≡ place_of (find (λ h. t h.row) hs)) where
-    pub place_held : IfSome place (IsHeldAt heads hs)
-    place_held = subst (λ o. IfSome o (IsHeldAt heads hs)) (sym is) (held_at (find (λ h. t h.row) hs) (λ h found. keyed (λ g. t g.row) hs h apart found))
-
-    pub place_row : row_behind heads hs place ≡ find t (rows_of hs)
-    place_row = ap (row_behind heads hs) is ∙ row_at_place (find (λ h. t h.row) hs) (λ h found. keyed (λ g. t g.row) hs h apart found) ∙ sym (find_rows t hs)
+    pub found_row : row_under hs key ≡ find t (rows_of hs)
+    found_row = ap (row_under hs) is ∙ row_at_key (find (λ h. t h.row) hs) (λ h found. keyed (λ g. t g.row) hs h apart found) ∙ sym (find_rows t hs)
 
 -- ---- what a list has
 
-module _ (heads : ℕ) (line : CallbackRow → ℕ) where
-  first_place : (list : ℕ) (hs : List Held) → slice_get (places_in heads list (marks line hs)) 0 ≡ option_map (λ (h : Held). heads + h.key) (find (λ h. line h.row == list) hs)
-  first_place list [] = refl
-  first_place list (h ∷ hs) = grind (arith, first_place list hs)
+module _ (line : CallbackRow → ℕ) where
+  first_key : (list : ℕ) (hs : List Held) → slice_get (keys_in list (marks line hs)) 0 ≡ option_map (λ (h : Held). h.key) (find (λ h. line h.row == list) hs)
+  first_key list [] = refl
+  first_key list (h ∷ hs) = grind (arith, first_key list hs)
 
-  pub many_places : (list : ℕ) (hs : List Held) → length (places_in heads list (marks line hs)) ≡ length (filter (λ c. line c == list) (rows_of hs))
-  many_places list [] = refl
-  many_places list (h ∷ hs) = grind (arith, many_places list hs)
+  pub many_keys : (list : ℕ) (hs : List Held) → length (keys_in list (marks line hs)) ≡ length (filter (λ c. line c == list) (rows_of hs))
+  many_keys list [] = refl
+  many_keys list (h ∷ hs) = grind (arith, many_keys list hs)
 
-  pub any_line : {places : ℕ} {all : Linked} (list : ℕ) (hs : List Held) → AreListed heads places (marks line hs) all → list < heads → not (length (list_of all list) == 0) ≡ list_any (λ c. line c == list) (rows_of hs)
-  any_line list hs are within = ap (λ n. not (n == 0)) (ap length (are.listed list within) ∙ many_places list hs) ∙ any_some (λ c. line c == list) (rows_of hs)
+  pub any_line : {heads places : ℕ} {all : Linked} (list : ℕ) (hs : List Held) → AreListed heads places (marks line hs) all → list < heads → not (length (list_of all list) == 0) ≡ list_any (λ c. line c == list) (rows_of hs)
+  any_line list hs are within = ap (λ n. not (n == 0)) (ap length (are.listed list within) ∙ many_keys list hs) ∙ any_some (λ c. line c == list) (rows_of hs)
 
-  -- the first place
-  pub first_is : {places : ℕ} {all : Linked} (list : ℕ) (hs : List Held) → AreListed heads places (marks line hs) all → list < heads → slice_get (list_of all list) 0 ≡ option_map (λ (h : Held). heads + h.key) (find (λ h. line h.row == list) hs)
-  first_is list hs are within = ap (λ (ps : List ℕ). slice_get ps 0) (are.listed list within) ∙ first_place list hs
+  -- the first key
+  pub first_is : {heads places : ℕ} {all : Linked} (list : ℕ) (hs : List Held) → AreListed heads places (marks line hs) all → list < heads → slice_get (list_of all list) 0 ≡ option_map (λ (h : Held). h.key) (find (λ h. line h.row == list) hs)
+  first_is list hs are within = ap (λ (ps : List ℕ). slice_get ps 0) (are.listed list within) ∙ first_key list hs
 
   -- and the next one
   after_skip : (p : ℕ) (xs ys : List ℕ) → AllByRecursion (λ x. x ≢ p) xs → place_after p (xs ++ p ∷ ys) ≡ slice_get ys 0
   after_skip p [] ys apart = ap (λ b. if b then slice_get ys 0 else place_after p ys) (eq-eqb p p refl)
   after_skip p (x ∷ xs) ys apart = rw (ne_eqb x p apart.0) (after_skip p xs ys apart.1)
 
-  places_apart : (key list : ℕ) (hs : List Held) → AllByRecursion (λ (h : Held). h.key ≢ key) hs → AllByRecursion (λ p. p ≢ heads + key) (places_in heads list (marks line hs))
-  places_apart key list [] apart = tt
-  places_apart key list (h ∷ hs) apart =
-      elim (line h.row == list) as (λ b. AllByRecursion (λ p. p ≢ heads + key) (map (λ (m : Mark). heads + m.key) (if b then mark line h ∷ filter (λ (m : Mark). m.list == list) (marks line hs) else filter (λ (m : Mark). m.list == list) (marks line hs)))) [
-        | true ↦ ((λ e. apart.0 (omega (arith, e))), places_apart key list hs apart.1)
-        | false ↦ places_apart key list hs apart.1
+  keys_apart : (key list : ℕ) (hs : List Held) → AllByRecursion (λ (h : Held). h.key ≢ key) hs → AllByRecursion (λ p. p ≢ key) (keys_in list (marks line hs))
+  keys_apart key list [] apart = tt
+  keys_apart key list (h ∷ hs) apart =
+      elim (line h.row == list) as (λ b. AllByRecursion (λ p. p ≢ key) (map (λ (m : Mark). m.key) (if b then mark line h ∷ filter (λ (m : Mark). m.list == list) (marks line hs) else filter (λ (m : Mark). m.list == list) (marks line hs)))) [
+        | true ↦ ((λ e. apart.0 (omega (arith, e))), keys_apart key list hs apart.1)
+        | false ↦ keys_apart key list hs apart.1
       ]
 
   module _ (hs : List Held) (h : Held) (p : Parts hs h) (list : ℕ) (own : line h.row ≡ list) where
     abbrev pub is_later : CallbackRow → Bool
     is_later c = (line c == list) && nat_lt h.row.number c.number
 
-    places_here : places_in heads list (marks line hs) ≡ places_in heads list (marks line p.lo) ++ (heads + h.key) ∷ places_in heads list (marks line p.hi)
-    places_here =
-        ap (places_in heads list) (before heads line hs h p)
-        ∙ places-append heads list (marks line p.lo) (mark line h ∷ marks line p.hi)
-        ∙ ap (λ b. places_in heads list (marks line p.lo) ++ map (λ (m : Mark). heads + m.key) (if b then mark line h ∷ filter (λ (m : Mark). m.list == list) (marks line p.hi) else filter (λ (m : Mark). m.list == list) (marks line p.hi))) (eq-eqb (line h.row) list own)
+    keys_here : keys_in list (marks line hs) ≡ keys_in list (marks line p.lo) ++ h.key ∷ keys_in list (marks line p.hi)
+    keys_here =
+        ap (keys_in list) (before 0 line hs h p)
+        ∙ keys-append list (marks line p.lo) (mark line h ∷ marks line p.hi)
+        ∙ ap (λ b. keys_in list (marks line p.lo) ++ map (λ (m : Mark). m.key) (if b then mark line h ∷ filter (λ (m : Mark). m.list == list) (marks line p.hi) else filter (λ (m : Mark). m.list == list) (marks line p.hi))) (eq-eqb (line h.row) list own)
 
     none_before : (xs ys : List Held) → AllByRecursion (λ (g : Held). g.row.number < h.row.number) xs → find (λ g. is_later g.row) (xs ++ h ∷ ys) ≡ find (λ g. is_later g.row) ys
     none_before [] ys low =
@@ -145,15 +142,15 @@ module _ (heads : ℕ) (line : CallbackRow → ℕ) where
         ap (λ b. if (line g.row == list) && b then Some g else find (λ x. is_later x.row) ys) (lt-ltb h.row.number g.row.number high.0)
         ∙ elim (line g.row == list) as (λ b. (if b && true then Some g else find (λ x. is_later x.row) ys) ≡ (if b then Some g else find (λ x. line x.row == list) ys)) [ true ↦ refl | false ↦ all_behind ys high.1 ]
 
-    pub owner_is : {places : ℕ} {all : Linked} → AreListed heads places (marks line hs) all → owner_of all (heads + h.key) ≡ list
-    owner_is are = are.owned h.key ∙ own_list heads line hs h p ∙ own
+    pub owner_is : {heads places : ℕ} {all : Linked} → AreListed heads places (marks line hs) all → owner_of all h.key ≡ list
+    owner_is are = are.owned h.key ∙ own_list _ line hs h p ∙ own
 
-    pub next_is : {places : ℕ} {all : Linked} → AreListed heads places (marks line hs) all → list < heads → place_after (heads + h.key) (list_of all list) ≡ option_map (λ (g : Held). heads + g.key) (find (λ g. is_later g.row) hs)
+    pub next_is : {heads places : ℕ} {all : Linked} → AreListed heads places (marks line hs) all → list < heads → place_after h.key (list_of all list) ≡ option_map (λ (g : Held). g.key) (find (λ g. is_later g.row) hs)
     next_is are within =
-        ap (place_after (heads + h.key)) (are.listed list within ∙ places_here)
-        ∙ after_skip (heads + h.key) (places_in heads list (marks line p.lo)) (places_in heads list (marks line p.hi)) (places_apart h.key list p.lo p.low_keys)
-        ∙ first_place list p.hi
-        ∙ ap (option_map (λ (g : Held). heads + g.key)) (sym (ap (find (λ g. is_later g.row)) p.is ∙ none_before p.lo p.hi p.low ∙ all_behind p.hi p.high))
+        ap (place_after h.key) (are.listed list within ∙ keys_here)
+        ∙ after_skip h.key (keys_in list (marks line p.lo)) (keys_in list (marks line p.hi)) (keys_apart h.key list p.lo p.low_keys)
+        ∙ first_key list p.hi
+        ∙ ap (option_map (λ (g : Held). g.key)) (sym (ap (find (λ g. is_later g.row)) p.is ∙ none_before p.lo p.hi p.low ∙ all_behind p.hi p.high))
 
     pub later_row : find is_later (rows_of hs) ≡ find (λ c. nat_lt h.row.number c.number) (filter (λ c. line c == list) (rows_of hs))
     later_row = sym (find_filter (λ c. line c == list) (λ c. nat_lt h.row.number c.number) (rows_of hs))

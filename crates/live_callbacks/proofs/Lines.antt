@@ -41,21 +41,21 @@ queue_most false p = omega (arith, priority_most p)
 
 module _ (pools objects : ℕ) where
   module _ (queue object own : ℕ) (in_queue : queue < 6 * pools) (mine : own ≤ objects) (within : object ≤ objects) where
-    expected_by : (s : Status) → (line_by pools objects queue own s == 6 * pools + object) ≡ (is_expected s && (own == object))
-    expected_by Expected = eq_same (6 * pools + own) (6 * pools + object) own object (λ e. omega (arith, e)) (λ e. omega (arith, e))
-    expected_by Issued = ne_eqb (6 * pools + (objects + 1) + own) (6 * pools + object) (λ e. absurd (omega (arith, e, within)))
-    expected_by Pending = ne_eqb queue (6 * pools + object) (λ e. absurd (omega (arith, e, in_queue)))
-    expected_by (Running worker associated slots) = ne_eqb (lines pools objects) (6 * pools + object) (λ e. absurd (omega (arith, e, within)))
-    expected_by Returned = ne_eqb (lines pools objects) (6 * pools + object) (λ e. absurd (omega (arith, e, within)))
-    expected_by Cancelled = ne_eqb (lines pools objects) (6 * pools + object) (λ e. absurd (omega (arith, e, within)))
+    expected_by : (s : Status) → (line_by pools objects queue own s == 6 * pools + 2 * object) ≡ (is_expected s && (own == object))
+    expected_by Expected = eq_same (6 * pools + 2 * own) (6 * pools + 2 * object) own object (λ e. omega (arith, e)) (λ e. omega (arith, e))
+    expected_by Issued = ne_eqb (6 * pools + 2 * own + 1) (6 * pools + 2 * object) (λ e. absurd (omega (arith, e, within)))
+    expected_by Pending = ne_eqb queue (6 * pools + 2 * object) (λ e. absurd (omega (arith, e, in_queue)))
+    expected_by (Running worker associated slots) = ne_eqb (lines pools objects) (6 * pools + 2 * object) (λ e. absurd (omega (arith, e, within)))
+    expected_by Returned = ne_eqb (lines pools objects) (6 * pools + 2 * object) (λ e. absurd (omega (arith, e, within)))
+    expected_by Cancelled = ne_eqb (lines pools objects) (6 * pools + 2 * object) (λ e. absurd (omega (arith, e, within)))
 
-    issued_by : (s : Status) → (line_by pools objects queue own s == 6 * pools + (objects + 1) + object) ≡ (is_issued s && (own == object))
-    issued_by Expected = ne_eqb (6 * pools + own) (6 * pools + (objects + 1) + object) (λ e. absurd (omega (arith, e, mine)))
-    issued_by Issued = eq_same (6 * pools + (objects + 1) + own) (6 * pools + (objects + 1) + object) own object (λ e. omega (arith, e)) (λ e. omega (arith, e))
-    issued_by Pending = ne_eqb queue (6 * pools + (objects + 1) + object) (λ e. absurd (omega (arith, e, in_queue)))
-    issued_by (Running worker associated slots) = ne_eqb (lines pools objects) (6 * pools + (objects + 1) + object) (λ e. absurd (omega (arith, e, within)))
-    issued_by Returned = ne_eqb (lines pools objects) (6 * pools + (objects + 1) + object) (λ e. absurd (omega (arith, e, within)))
-    issued_by Cancelled = ne_eqb (lines pools objects) (6 * pools + (objects + 1) + object) (λ e. absurd (omega (arith, e, within)))
+    issued_by : (s : Status) → (line_by pools objects queue own s == 6 * pools + 2 * object + 1) ≡ (is_issued s && (own == object))
+    issued_by Expected = ne_eqb (6 * pools + 2 * own) (6 * pools + 2 * object + 1) (λ e. absurd (omega (arith, e, mine)))
+    issued_by Issued = eq_same (6 * pools + 2 * own + 1) (6 * pools + 2 * object + 1) own object (λ e. omega (arith, e)) (λ e. omega (arith, e))
+    issued_by Pending = ne_eqb queue (6 * pools + 2 * object + 1) (λ e. absurd (omega (arith, e, in_queue)))
+    issued_by (Running worker associated slots) = ne_eqb (lines pools objects) (6 * pools + 2 * object + 1) (λ e. absurd (omega (arith, e, within)))
+    issued_by Returned = ne_eqb (lines pools objects) (6 * pools + 2 * object + 1) (λ e. absurd (omega (arith, e, within)))
+    issued_by Cancelled = ne_eqb (lines pools objects) (6 * pools + 2 * object + 1) (λ e. absurd (omega (arith, e, within)))
 
   queue_same : (p pool k n : ℕ) → k ≤ 5 → n ≤ 5 → (6 * p + k == 6 * pool + n) ≡ ((p == pool) && (k == n))
   queue_same p pool k n kt nt =
@@ -66,8 +66,8 @@ module _ (pools objects : ℕ) where
 
   module _ (p pool k n own : ℕ) (kt : k ≤ 5) (nt : n ≤ 5) (lt : pool < pools) where
     queue_by : (s : Status) → (line_by pools objects (6 * p + k) own s == 6 * pool + n) ≡ ((is_pending s && (p == pool)) && (k == n))
-    queue_by Expected = ne_eqb (6 * pools + own) (6 * pool + n) (λ e. absurd (omega (arith, e, nt, lt)))
-    queue_by Issued = ne_eqb (6 * pools + (objects + 1) + own) (6 * pool + n) (λ e. absurd (omega (arith, e, nt, lt)))
+    queue_by Expected = ne_eqb (6 * pools + 2 * own) (6 * pool + n) (λ e. absurd (omega (arith, e, nt, lt)))
+    queue_by Issued = ne_eqb (6 * pools + 2 * own + 1) (6 * pool + n) (λ e. absurd (omega (arith, e, nt, lt)))
     queue_by Pending = queue_same p pool k n kt nt
     queue_by (Running worker associated slots) = ne_eqb (lines pools objects) (6 * pool + n) (λ e. absurd (omega (arith, e, nt, lt)))
     queue_by Returned = ne_eqb (lines pools objects) (6 * pool + n) (λ e. absurd (omega (arith, e, nt, lt)))
@@ -79,12 +79,12 @@ module _ (pools objects : ℕ) where
   in_a_queue : (c : CallbackRow) → IsAtHome pools objects c → 6 * c.pool.0 + queue_number c.persistent c.priority < 6 * pools
   in_a_queue c home = omega (arith, home.0, queue_most c.persistent c.priority)
 
-  pub expected_agree : (object : ℕ) → object ≤ objects → (cs : List CallbackRow) → AreAtHome cs → AllAgree (λ c. line_of pools objects c == 6 * pools + object) (is_expected_of object) cs
+  pub expected_agree : (object : ℕ) → object ≤ objects → (cs : List CallbackRow) → AreAtHome cs → AllAgree (λ c. line_of pools objects c == 6 * pools + 2 * object) (is_expected_of object) cs
   expected_agree object within [] homes = tt
   expected_agree object within (c ∷ cs) homes =
       (expected_by (6 * c.pool.0 + queue_number c.persistent c.priority) object c.object.0 (in_a_queue c homes.0) homes.0.1 within c.status, expected_agree object within cs homes.1)
 
-  issued_agree : (object : ℕ) → object ≤ objects → (cs : List CallbackRow) → AreAtHome cs → AllAgree (λ c. line_of pools objects c == 6 * pools + (objects + 1) + object) (λ c. is_issued c.status && (c.object.0 == object)) cs
+  issued_agree : (object : ℕ) → object ≤ objects → (cs : List CallbackRow) → AreAtHome cs → AllAgree (λ c. line_of pools objects c == 6 * pools + 2 * object + 1) (λ c. is_issued c.status && (c.object.0 == object)) cs
   issued_agree object within [] homes = tt
   issued_agree object within (c ∷ cs) homes =
       (issued_by (6 * c.pool.0 + queue_number c.persistent c.priority) object c.object.0 (in_a_queue c homes.0) homes.0.1 within c.status, issued_agree object within cs homes.1)
@@ -134,14 +134,14 @@ module _ (pools objects : ℕ) where
   operates Cancelled b = refl
 
   pub any_operation : (object : ℕ) → object ≤ objects → (cs : List CallbackRow) → AreAtHome cs
-      → list_any (is_operation_of object) cs ≡ (list_any (λ c. line_of pools objects c == 6 * pools + object) cs || list_any (λ c. line_of pools objects c == 6 * pools + (objects + 1) + object) cs)
+      → list_any (is_operation_of object) cs ≡ (list_any (λ c. line_of pools objects c == 6 * pools + 2 * object) cs || list_any (λ c. line_of pools objects c == 6 * pools + 2 * object + 1) cs)
   any_operation object within [] homes = refl
   any_operation object within (c ∷ cs) homes =
       let expected = (expected_agree object within (c ∷ []) (homes.0, tt)).0 in
       let issued = (issued_agree object within (c ∷ []) (homes.0, tt)).0 in
       let rest = any_operation object within cs homes.1 in
       rw (expected, issued, rest, operates c.status (c.object.0 == object))
-      (swap (is_expected c.status && (c.object.0 == object)) (is_issued c.status && (c.object.0 == object)) (list_any (λ c. line_of pools objects c == 6 * pools + object) cs) (list_any (λ c. line_of pools objects c == 6 * pools + (objects + 1) + object) cs))
+      (swap (is_expected c.status && (c.object.0 == object)) (is_issued c.status && (c.object.0 == object)) (list_any (λ c. line_of pools objects c == 6 * pools + 2 * object) cs) (list_any (λ c. line_of pools objects c == 6 * pools + 2 * object + 1) cs))
     where
       swap : (a b x y : Bool) → ((a || b) || (x || y)) ≡ ((a || x) || (b || y))
       swap true b x y = refl

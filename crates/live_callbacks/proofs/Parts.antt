@@ -7,7 +7,7 @@ use Rattle.tp_base.specs.declared.rows.CallbackRow.{CallbackRow}
 use Rattle.tp_model.specs.Support.Sound.{IsRising}
 use Rattle.tp_model.proofs.Lists.{all_along, find_all}
 use Rattle.live_callbacks.specs.Held.{AreApart, Held, rows_of}
-use Rattle.live_callbacks.specs.Lists.{Mark, list_at, mark, marks, places_in}
+use Rattle.live_callbacks.specs.Lists.{Mark, list_at, mark, marks, keys_in}
 use Rattle.live_callbacks.proofs.Settled.{IsStep, MarksRise, at_skip, others}
 
 -- ---- lists in which one alone passes
@@ -112,7 +112,7 @@ module _ (heads : ℕ) (line : CallbackRow → ℕ) where
   key_fails : (key : ℕ) (xs : List Held) → AllByRecursion (λ (h : Held). h.key ≢ key) xs → AllFail (λ (m : Mark). m.key == key) (marks line xs)
   key_fails key xs apart = marked (λ (m : Mark). (m.key == key) ≡ false) xs (all_along (λ (h : Held). h.key ≢ key) (λ (h : Held). (h.key == key) ≡ false) (λ h other. ne_eqb h.key key other) xs apart)
 
-  one_shows : (key number list s : ℕ) → places_in heads s (record { key = key; number = number; list = list } ∷ []) ≡ if s == list then (heads + key) ∷ [] else []
+  one_shows : (key number list s : ℕ) → keys_in s (record { key = key; number = number; list = list } ∷ []) ≡ if s == list then key ∷ [] else []
   one_shows key number list s =
       ⊎_elim
       (λ (same : s ≡ list). rw (eq-eqb list s (sym same), eq-eqb s list same) refl)
@@ -183,7 +183,7 @@ module _ (heads : ℕ) (line : CallbackRow → ℕ) where
       low = marked (λ (x : Mark). x.number < h.row.number) p.lo p.low;
       high = marked (λ (x : Mark). h.row.number < x.number) p.hi p.high;
       are = tt;
-      shows = λ s lt. sym (ap (λ b. if b then (heads + h.key) ∷ [] else []) (ne_eqb s heads (λ e. absurd (omega (arith, e, lt)))));
+      shows = λ s lt. sym (ap (λ b. if b then h.key ∷ [] else []) (ne_eqb s heads (λ e. absurd (omega (arith, e, lt)))));
       stands = refl;
       same = λ at lt. absurd (omega (arith, lt));
     }

@@ -10,7 +10,7 @@ use Rattle.linked_lists.specs.Linked.{Linked, list_of}
 use Rattle.live_callbacks.specs.Held.{Held, rows_of}
 use Rattle.live_callbacks.specs.Lists.{AreListed, count_queues_of, first_of_half, first_queue_of, line_of, lines, marks, priority_number}
 use Rattle.live_callbacks.specs.Queues.{half_among, is_pending_half, is_queued}
-use Rattle.live_callbacks.proofs.Found.{filter_same, first_filtered, many_places}
+use Rattle.live_callbacks.proofs.Found.{filter_same, first_filtered, many_keys}
 use Rattle.live_callbacks.proofs.Lines.{queue_agree}
 
 as_high : (p : Priority) → (priority_number p == 0) ≡ is_high p
@@ -68,7 +68,7 @@ module _ (pools objects pool : ℕ) (lt : pool < pools) (persistent : Bool) wher
     rows = rows_of hs
 
     len_of : (x : ℕ) → x < lines pools objects → length (list_of all x) ≡ length (filter (λ c. line_of pools objects c == x) rows)
-    len_of x within = ap length (are.listed x within) ∙ many_places (lines pools objects) (line_of pools objects) x hs
+    len_of x within = ap length (are.listed x within) ∙ many_keys (line_of pools objects) x hs
 
     high_len : length (list_of all (6 * pool + first_of_half persistent)) ≡ length (filter (is_queued pool persistent is_high) rows)
     high_len = len_of (6 * pool + first_of_half persistent) (omega (arith, lt, half_most persistent)) ∙ ap length (high rows)

@@ -144,13 +144,13 @@ of_none all to is = record {
 module _ {places : ℕ} {hs : List Held} {all : Lists} (key : ℕ) (to : Standing) (at : ℕ → (CallbackRow → ℕ) → ℕ) (k : StandIn places hs all) (belongs : Belongs all to at) where
   module _ (next_number : ℕ) (rising : IsRising 0 next_number (rows_of hs)) (there : key < places) where
     pub may_line : MaySettle (lines all.pools all.objects) all.lines key to.line
-    may_line = may_settle key to.line k.by_line belongs.line_within (marks_rise (line_of all.pools all.objects) 0 next_number hs rising) there k.lines_fit
+    may_line = may_settle key to.line k.by_line belongs.line_within (marks_rise (line_of all.pools all.objects) 0 next_number hs rising) there
 
     pub may_object : MaySettle (all.objects + 1) all.outstanding key to.object
-    may_object = may_settle key to.object k.by_object belongs.object_within (marks_rise (object_of all.objects) 0 next_number hs rising) there (omega (arith, k.lines_fit))
+    may_object = may_settle key to.object k.by_object belongs.object_within (marks_rise (object_of all.objects) 0 next_number hs rising) there
 
     pub may_group : MaySettle (all.groups + 1) all.by_group key to.group
-    may_group = may_settle key to.group k.in_group belongs.group_within (marks_rise (group_of all.groups) 0 next_number hs rising) there k.groups_fit
+    may_group = may_settle key to.group k.in_group belongs.group_within (marks_rise (group_of all.groups) 0 next_number hs rising) there
 
   module _ (ds : List Held) (n : ℕ) (new : Lists) (step : (heads : ℕ) (line : CallbackRow → ℕ) → IsStep heads (marks line hs) (marks line ds) key n (at heads line)) where
     line_stands : IsSettled (lines all.pools all.objects) all.lines new.lines key to.line n → AreListed (lines all.pools all.objects) places (marks (line_of all.pools all.objects) ds) new.lines

@@ -18,10 +18,10 @@ pub record HaveLists (all : Lists) : Type 0 where
   pub objects_many : length all.outstanding.lists ≡ all.objects + 1
   pub groups_many : length all.by_group.lists ≡ all.groups + 1
 
--- each family has the rows that stand in it, where so many keys have places
+-- each family has the rows that stand in it, where there are so many keys
 pub record StandIn (places : ℕ) (held : List Held) (all : Lists) : Type 0 where
-  pub lines_fit : lines all.pools all.objects + places < 2 ^ 32
-  pub groups_fit : all.groups + 1 + places < 2 ^ 32
+  pub lines_fit : lines all.pools all.objects < 2 ^ 32
+  pub groups_fit : all.groups + 1 < 2 ^ 32
   pub by_line : AreListed (lines all.pools all.objects) places (marks (line_of all.pools all.objects) held) all.lines
   pub by_object : AreListed (all.objects + 1) places (marks (object_of all.objects) held) all.outstanding
   pub in_group : AreListed (all.groups + 1) places (marks (group_of all.groups) held) all.by_group
@@ -61,4 +61,4 @@ pub record AreSettled (old new : Lists) (key number : ℕ) (to : Standing) : Typ
 -- a key comes to no line and to no other object's list
 pub record OnlyLeaves (old : Lists) (key : ℕ) (to : Standing) : Type 0 where
   pub line : to.line ≡ lines old.pools old.objects
-  pub object : (to.object ≡ old.objects + 1) ⊎ (owner_of old.outstanding (old.objects + 1 + key) ≡ to.object)
+  pub object : (to.object ≡ old.objects + 1) ⊎ (owner_of old.outstanding key ≡ to.object)

@@ -1,5 +1,5 @@
 -- The rows of the callbacks that live, each under a key: what a contract sees of `Rows`.
-use Rattle.std.specs.Prelude.{◌≢◌, ℕ, ◌-◌, ◌≤◌, ◌==◌, List, [], ◌∷◌, IsSome, Option, Some, None, find, map, option_map}
+use Rattle.std.specs.Prelude.{◌≢◌, ℕ, ◌==◌, List, [], ◌∷◌, IsSome, Option, Some, None, find, map, option_map}
 use Rattle.std.specs.List.{AllByRecursion}
 use Rattle.tp_base.specs.declared.rows.CallbackRow.{CallbackRow}
 
@@ -22,10 +22,10 @@ abbrev pub AreApart : List Held → Type 0
 AreApart [] = Unit {0}
 AreApart (h ∷ hs) = AllByRecursion (λ (g : Held). g.key ≢ h.key) hs × AreApart hs
 
--- a row is under the key that has this place, behind so many others
-abbrev pub IsHeldAt : ℕ → List Held → ℕ → Type 0
-IsHeldAt heads held place = (heads ≤ place) × IsSome (find (λ h. h.key == place - heads) held)
+-- a row is under this key
+abbrev pub IsHeldUnder : List Held → ℕ → Type 0
+IsHeldUnder held key = IsSome (find (λ h. h.key == key) held)
 
-abbrev pub row_behind : ℕ → List Held → Option ℕ → Option CallbackRow
-row_behind heads held None = None
-row_behind heads held (Some place) = option_map (λ h. h.row) (find (λ h. h.key == place - heads) held)
+abbrev pub row_under : List Held → Option ℕ → Option CallbackRow
+row_under held None = None
+row_under held (Some key) = option_map (λ h. h.row) (find (λ h. h.key == key) held)

@@ -1,5 +1,5 @@
 -- The lists of the callbacks: in which of each family a callback stands, and what a family has of all.
-use Rattle.std.specs.Prelude.{◌≡◌, ◌≢◌, ℕ, ◌+◌, ◌*◌, ◌<◌, ◌≤◌, ◌^◌, ◌==◌, ◌&&◌, Bool, List, [], ◌∷◌, filter, length, map, nat_le, nat_lt, slice_index, if◌then◌else◌}
+use Rattle.std.specs.Prelude.{◌≡◌, ◌≢◌, ℕ, ◌+◌, ◌*◌, ◌<◌, ◌≤◌, ◌==◌, ◌&&◌, Bool, List, [], ◌∷◌, filter, length, map, nat_le, nat_lt, slice_index, if◌then◌else◌}
 use Rattle.std.specs.List.{AllByRecursion}
 use Rattle.tp_base.specs.declared.calls.Priority.{Priority}
 use Rattle.tp_base.specs.declared.calls.Priority.TheVariants.{High, Normal, Low}
@@ -30,8 +30,8 @@ abbrev pub lines : ℕ → ℕ → ℕ
 lines pools objects = 6 * pools + 2 * (objects + 1)
 
 abbrev pub line_by : ℕ → ℕ → ℕ → ℕ → Status → ℕ
-line_by pools objects queue object Expected = 6 * pools + object
-line_by pools objects queue object Issued = 6 * pools + (objects + 1) + object
+line_by pools objects queue object Expected = 6 * pools + 2 * object
+line_by pools objects queue object Issued = 6 * pools + 2 * object + 1
 line_by pools objects queue object Pending = queue
 line_by pools objects queue object (Running worker associated slots) = lines pools objects
 line_by pools objects queue object Returned = lines pools objects
@@ -70,38 +70,37 @@ mark line h = record { key = h.key; number = h.row.number; list = line h.row }
 abbrev pub marks : (CallbackRow → ℕ) → List Held → List Mark
 marks line held = map (mark line) held
 
--- the places of a list, where so many lists have places of their own
-abbrev pub places_in : ℕ → ℕ → List Mark → List ℕ
-places_in heads list ms = map (λ m. heads + m.key) (filter (λ m. m.list == list) ms)
+-- the keys of a list
+abbrev pub keys_in : ℕ → List Mark → List ℕ
+keys_in list ms = map (λ m. m.key) (filter (λ m. m.list == list) ms)
 
--- the list of a key
+-- the list of a key, or the number of lists
 abbrev pub list_at : ℕ → ℕ → List Mark → ℕ
-list_at heads key [] = heads
-list_at heads key (m ∷ ms) = if m.key == key then m.list else list_at heads key ms
+list_at lists key [] = lists
+list_at lists key (m ∷ ms) = if m.key == key then m.list else list_at lists key ms
 
 -- each list has exactly the rows of it, by rising number, and each key is in the list of its row, or in none
-pub record AreListed (heads places : ℕ) (ms : List Mark) (all : Linked) : Type 0 where
-  pub room : all.room ≡ heads + places
-  pub many : length all.lists ≡ heads
-  pub bounded : AllByRecursion (λ m. m.list ≤ heads) ms
-  pub listed : (list : ℕ) → list < heads → list_of all list ≡ places_in heads list ms
-  pub owned : (key : ℕ) → owner_of all (heads + key) ≡ list_at heads key ms
-  pub numbered : AllByRecursion (λ m. m.list < heads → slice_index all.numbers (heads + m.key) ≡ m.number) ms
+pub record AreListed (lists keys : ℕ) (ms : List Mark) (all : Linked) : Type 0 where
+  pub sized : length all.numbers ≡ keys
+  pub many : length all.lists ≡ lists
+  pub bounded : AllByRecursion (λ m. m.list ≤ lists) ms
+  pub listed : (list : ℕ) → list < lists → list_of all list ≡ keys_in list ms
+  pub owned : (key : ℕ) → owner_of all key ≡ list_at lists key ms
+  pub numbered : AllByRecursion (λ m. m.list < lists → slice_index all.numbers m.key ≡ m.number) ms
 
 -- ---- a key comes to another list
 
-pub record MaySettle (heads : ℕ) (all : Linked) (key list : ℕ) : Type 0 where
-  pub fits : heads + key < 2 ^ 32
-  pub many : length all.lists ≡ heads
-  pub within : list ≤ heads
-  pub common : IsCommon all (heads + key)
-  pub order : list < heads → AreInOrder all.numbers (list_of all list)
+pub record MaySettle (lists : ℕ) (all : Linked) (key list : ℕ) : Type 0 where
+  pub many : length all.lists ≡ lists
+  pub within : list ≤ lists
+  pub common : IsCommon all key
+  pub order : list < lists → AreInOrder all.numbers (list_of all list)
 
 -- nothing changes where it is in that list already
-pub record IsSettled (heads : ℕ) (old new : Linked) (key list number : ℕ) : Type 0 where
-  pub stays : owner_of old (heads + key) ≡ list → new ≡ old
-  pub moves : owner_of old (heads + key) ≢ list → IsMoved old new (heads + key) list number
-  pub none : list ≡ heads → IsMoved old new (heads + key) list number
+pub record IsSettled (lists : ℕ) (old new : Linked) (key list number : ℕ) : Type 0 where
+  pub stays : owner_of old key ≡ list → new ≡ old
+  pub moves : owner_of old key ≢ list → IsMoved old new key list number
+  pub none : list ≡ lists → IsMoved old new key list number
 
 -- of three lists, from this one on, the first that isn't empty, or the last
 abbrev pub first_queue_of : Linked → ℕ → ℕ

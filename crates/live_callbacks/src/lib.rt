@@ -19,10 +19,9 @@
 //! ```
 //!
 //! What a call costs: nothing is searched but the number of a call, once. A row stands under one key while it
-//! lives, a vector of numbers leads to the keys (`rows`), and the places of a key in the lists are told by the key
-//! (`lists`). A callback comes last into the lists where it is made. Where it becomes pending later, it goes behind
-//! those of lower numbers, from an end of its queue or from a number next to it (`beside`). It leaves a list in one
-//! step, wherever it stands there.
+//! lives, a vector of numbers leads to the keys (`rows`), and the lists are of keys (`lists`). A callback comes last
+//! into the lists where it is made. Where it becomes pending later, it goes behind those of lower numbers, from an end
+//! of its queue or from a number next to it (`beside`). It leaves a list in one step, wherever it stands there.
 
 #![tactic(auto)]
 
@@ -47,7 +46,7 @@ mod lists;
 mod places;
 mod rows;
 
-use lists::{Lists, after_in, first_in, has_list, lent_behind, priority_number};
+use lists::{Lists, after_in, first_in, has_list, lent_under, priority_number};
 use rows::Rows;
 
 /// The callbacks that live.
@@ -201,8 +200,7 @@ impl LiveCallbacks {
             return self.rows.first_of_group(group);
         }
         let _known = self.rows.len();
-        let place = first_in(&self.lists.by_group, group.0);
-        lent_behind(&self.rows, self.lists.groups + 1, place)
+        lent_under(&self.rows, first_in(&self.lists.by_group, group.0))
     }
 
     /// The callback that follows this one in its group, lent, or None where it is the last.
@@ -216,8 +214,7 @@ impl LiveCallbacks {
         }
         let _known = self.rows.len();
         let key = self.rows.key_of(row.number).unwrap();
-        let place = after_in(&self.lists.by_group, self.lists.groups + 1 + key);
-        lent_behind(&self.rows, self.lists.groups + 1, place)
+        lent_under(&self.rows, after_in(&self.lists.by_group, key))
     }
 
     // Of a pool's persistent callbacks, or of its others, the one that is taken next.
@@ -233,13 +230,13 @@ impl LiveCallbacks {
         ensures bound { steps.new ≤ steps.old + 1 }
     {
         let _known = self.rows.len();
-        let place = if pool.0 < self.lists.pools {
+        let key = if pool.0 < self.lists.pools {
             let line = self.lists.first_queue(pool.0, persistent);
             self.lists.lines.first(line, steps)
         } else {
             None
         };
-        lent_behind(&self.rows, self.lists.lines.lists(), place)
+        lent_under(&self.rows, key)
     }
 
     /// Whether no persistent callback is pending, in any pool. Then who takes only others takes all.
@@ -325,8 +322,7 @@ impl LiveCallbacks {
             return None;
         }
         let _known = self.rows.len();
-        let place = first_in(&self.lists.outstanding, object.0);
-        lent_behind(&self.rows, self.lists.objects + 1, place)
+        lent_under(&self.rows, first_in(&self.lists.outstanding, object.0))
     }
 
     /// The callback that follows this one among those that are outstanding for its object, lent, or None where
@@ -338,8 +334,7 @@ impl LiveCallbacks {
     {
         let _known = self.rows.len();
         let key = self.rows.key_of(row.number).unwrap();
-        let place = after_in(&self.lists.outstanding, self.lists.objects + 1 + key);
-        lent_behind(&self.rows, self.lists.objects + 1, place)
+        lent_under(&self.rows, after_in(&self.lists.outstanding, key))
     }
 
     /// The callback of an object that has expected its operation longest, or None where none expects one.
@@ -351,8 +346,8 @@ impl LiveCallbacks {
             return None;
         }
         let _known = self.rows.len();
-        let place = first_in(&self.lists.lines, 6 * self.lists.pools + object.0);
-        lent_behind(&self.rows, self.lists.lines.lists(), place).copied()
+        let expected = 6 * self.lists.pools + 2 * object.0;
+        lent_under(&self.rows, first_in(&self.lists.lines, expected)).copied()
     }
 
     /// Whether a callback of an object expects an operation or has it under way.
@@ -363,9 +358,8 @@ impl LiveCallbacks {
         if object.0 > self.lists.objects {
             return false;
         }
-        let expected = 6 * self.lists.pools + object.0;
-        let issued = 6 * self.lists.pools + (self.lists.objects + 1) + object.0;
-        self.lists.lines.len(expected) != 0 || self.lists.lines.len(issued) != 0
+        let expected = 6 * self.lists.pools + 2 * object.0;
+        self.lists.lines.len(expected) != 0 || self.lists.lines.len(expected + 1) != 0
     }
 
     /// Whether any callback expects an operation or has it under way.
@@ -393,7 +387,7 @@ impl LiveCallbacks {
         self.operating += operations(&row);
         let is = waiting_persistent(&row);
         recount(&mut self.persistent, row.persistent, 0, is);
-        self.lists.settle(key, row.number, to, to.line, &mut steps);
+        self.lists.settle(key, row.number, to, &mut steps);
     }
 
     /// A callback moves on: `after` comes in the place of `before`, which is its row as it stands.
@@ -437,6 +431,6 @@ impl LiveCallbacks {
         self.operating -= operations(row);
         let was = waiting_persistent(row);
         recount(&mut self.persistent, row.persistent, was, 0);
-        self.lists.settle(key, row.number, to, to.line, &mut steps);
+        self.lists.settle(key, row.number, to, &mut steps);
     }
 }

@@ -1,12 +1,12 @@
 //! The lists in which a callback stands, in three families: what it waits for, what it is outstanding for, and
-//! its group. In each it is in one list or in none, at the place of its key.
+//! its group. In each its key is in one list or in none.
 
 ghost use Rattle.std.specs.Prelude.{◌≡◌, ◌+◌, ◌*◌, ◌<◌, ◌≤◌, ◌^◌, [], IfOk, IfSome, false, length, slice_get, true};
 ghost use Rattle.std.specs.Option.{option_copied};
-ghost use Rattle.linked_lists.specs.Linked.{AreInOrder, IsOf, list_of, owner_of, place_after};
+ghost use Rattle.linked_lists.specs.Linked.{AreInOrder, list_of, owner_of, place_after};
 ghost use Rattle.tp_model.specs.Counts.{is_pending};
 ghost use Rattle.live_callbacks.specs.Families.{AreSettled, AreSettledInGroup, HaveLists, HaveRoom, IsNowhere, IsStanding, OnlyLeaves, StandIn};
-ghost use Rattle.live_callbacks.specs.Held.{IsHeldAt, row_behind as row_behind_place};
+ghost use Rattle.live_callbacks.specs.Held.{IsHeldUnder, row_under};
 ghost use Rattle.live_callbacks.specs.Lists.{IsAtHome, MaySettle, count_queues_of, first_queue_of, first_of_half as first_of_half_by, group_of as group_of_row, has_list as has_group_list, line_of as line_of_row, lines, object_of as object_of_row, priority_number as priority_number_of};
 
 use crate::rows::Rows;
@@ -76,8 +76,8 @@ fn line_of(pools: u32, objects: u32, none: u32, callback: &CallbackRow) -> u32
     ensures within { result ≤ lines pools objects }
 {
     match callback.status {
-        Status::Expected => 6 * pools + callback.object.0,
-        Status::Issued => 6 * pools + (objects + 1) + callback.object.0,
+        Status::Expected => 6 * pools + 2 * callback.object.0,
+        Status::Issued => 6 * pools + 2 * callback.object.0 + 1,
         Status::Pending => {
             6 * callback.pool.0
                 + (first_of_half(callback.persistent) + priority_number(callback.priority))
@@ -115,7 +115,7 @@ fn group_of(groups: u32, none: u32, callback: &CallbackRow) -> u32
     }
 }
 
-// The first place of a list.
+// The first key of a list.
 #[inline(always)]
 pub(crate) fn first_in(lists: &LinkedLists, list: u32) -> Option<u32>
     requires { list < length lists.now.lists }
@@ -125,24 +125,24 @@ pub(crate) fn first_in(lists: &LinkedLists, list: u32) -> Option<u32>
     lists.first(list, &mut steps)
 }
 
-// The place that follows this one in its list.
+// The key that follows this one in its list.
 #[inline(always)]
-pub(crate) fn after_in(lists: &LinkedLists, place: u32) -> Option<u32>
-    requires { owner_of lists.now place < length lists.now.lists }
-    ensures { result ≡ place_after place (list_of lists.now (owner_of lists.now place)) }
+pub(crate) fn after_in(lists: &LinkedLists, key: u32) -> Option<u32>
+    requires { owner_of lists.now key < length lists.now.lists }
+    ensures { result ≡ place_after key (list_of lists.now (owner_of lists.now key)) }
 {
     let mut steps = Steps::new();
-    lists.after(place, &mut steps)
+    lists.after(key, &mut steps)
 }
 
-// The row whose key has this place, behind so many places of lists, lent.
+// The row under this key, lent.
 #[inline(always)]
-pub(crate) fn lent_behind(rows: &Rows, heads: u32, place: Option<u32>) -> Option<&CallbackRow>
-    requires { IfSome place (IsHeldAt heads rows.now.held) }
-    ensures { option_copied result ≡ row_behind_place heads rows.now.held place }
+pub(crate) fn lent_under(rows: &Rows, key: Option<u32>) -> Option<&CallbackRow>
+    requires { IfSome key (IsHeldUnder rows.now.held) }
+    ensures { option_copied result ≡ row_under rows.now.held key }
 {
-    match place {
-        Some(place) => Some(rows.lend(place - heads)),
+    match key {
+        Some(key) => Some(rows.lend(key)),
         None => None,
     }
 }
@@ -161,8 +161,7 @@ impl Lists {
         ensures empty { IfOk result (StandIn places []) }
     {
         let lines = 6 * pools as u64 + 2 * (objects as u64 + 1);
-        let most = lines.max(groups as u64 + 1) + places as u64;
-        if most > u32::MAX as u64 {
+        if lines.max(groups as u64 + 1) > u32::MAX as u64 {
             return Err(AllocError);
         }
         Ok(Lists {
@@ -202,81 +201,80 @@ impl Lists {
         }
     }
 
-    // A place of a line near to where this number belongs there, or the line's own. Where an end of the line
-    // tells where that is, no other place is looked for.
-    fn near_in(&self, rows: &Rows, line: u32, number: u64, steps: &mut Steps) -> u32
+    // A key of a line near to where this number belongs there. None is looked for where an end of the line tells
+    // where that is.
+    fn near_in(&self, rows: &Rows, line: u32, number: u64, steps: &mut Steps) -> Option<u32>
         requires fits { HaveRoom self.now }
         requires line { line < length self.now.lines.lists }
         requires order { AreInOrder self.now.lines.numbers (list_of self.now.lines line) }
-        ensures near { IsOf self.now.lines line result }
+        ensures near { IfSome result (λ key. owner_of self.now.lines key ≡ line) }
         ensures counted { steps.old ≤ steps.new }
     {
-        if self.lines.end_below(line, number, steps).is_some() {
-            return line;
-        }
-        match rows.place_beside(number, &self.lines, line, self.lines.lists()) {
-            Some(place) => place,
-            None => line,
+        if self.lines.is_at_end(line, number, steps) {
+            None
+        } else {
+            rows.key_beside(number, &self.lines, line)
         }
     }
 
     // The same for the line of a callback. Only what becomes pending comes before others there.
     #[inline(always)]
-    pub fn near(&self, rows: &Rows, callback: &CallbackRow, line: u32, steps: &mut Steps) -> u32
+    pub fn near(
+        &self,
+        rows: &Rows,
+        callback: &CallbackRow,
+        line: u32,
+        steps: &mut Steps,
+    ) -> Option<u32>
         requires fits { HaveRoom self.now }
         requires line { is_pending callback.now.status ≡ true → line < length self.now.lines.lists }
         requires order { line < length self.now.lines.lists → AreInOrder self.now.lines.numbers (list_of self.now.lines line) }
-        ensures near { IsOf self.now.lines line result }
+        ensures near { IfSome result (λ key. owner_of self.now.lines key ≡ line) }
         ensures counted { steps.old ≤ steps.new }
         ensures still { is_pending callback.now.status ≡ false → steps.new ≡ steps.old }
     {
         match callback.status {
             Status::Pending => self.near_in(rows, line, callback.number, steps),
-            Status::Expected | Status::Issued => line,
-            Status::Running { .. } | Status::Returned | Status::Cancelled => line,
+            Status::Expected | Status::Issued => None,
+            Status::Running { .. } | Status::Returned | Status::Cancelled => None,
         }
     }
 
-    // A key of a row of this number comes to these lists, and leaves those that it was in. Into its line it
-    // comes from a place near to where it belongs there, or from the line's own.
+    // A key of a row of this number comes to these lists, and leaves those that it was in. Into its line it comes
+    // last, or as it belongs there by its number.
     #[inline(always)]
-    pub fn settle(&mut self, key: u32, number: u64, to: Standing, near: u32, steps: &mut Steps)
-        requires near { IsOf self.old.lines to.line near }
+    pub fn settle(&mut self, key: u32, number: u64, to: Standing, steps: &mut Steps)
         requires line { MaySettle (lines self.old.pools self.old.objects) self.old.lines key to.line }
         requires object { MaySettle (self.old.objects + 1) self.old.outstanding key to.object }
         requires group { MaySettle (self.old.groups + 1) self.old.by_group key to.group }
         ensures settled { AreSettled self.old self.new key number to }
         ensures counted { steps.old ≤ steps.new }
     {
-        self.settle_in_group(key, number, to, near, steps);
-        let groups = self.by_group.lists();
-        self.by_group
-            .move_to(to.group, to.group, groups + key, number, steps);
+        self.settle_in_group(key, number, to, None, steps);
+        self.by_group.move_to(to.group, None, key, number, steps);
     }
 
-    // The same of a key that is in the list of its group already, or in none as it belongs.
+    // The same of a key that is in the list of its group already, or in none as it belongs. Into its line it comes
+    // from a key near to where it belongs there, if one is told.
     #[inline(always)]
     pub fn settle_in_group(
         &mut self,
         key: u32,
         number: u64,
         to: Standing,
-        near: u32,
+        near: Option<u32>,
         steps: &mut Steps,
     )
-        requires near { IsOf self.old.lines to.line near }
+        requires near { IfSome near (λ at. owner_of self.old.lines at ≡ to.line) }
         requires line { MaySettle (lines self.old.pools self.old.objects) self.old.lines key to.line }
         requires object { MaySettle (self.old.objects + 1) self.old.outstanding key to.object }
         ensures settled { AreSettledInGroup self.old self.new key number to }
         ensures counted { steps.old ≤ steps.new }
         ensures cost { OnlyLeaves self.old key to → steps.new ≤ steps.old + 2 }
     {
-        let lines = self.lines.lists();
-        self.lines
-            .move_to(to.line, near, lines + key, number, steps);
-        let objects = self.outstanding.lists();
+        self.lines.move_to(to.line, near, key, number, steps);
         self.outstanding
-            .move_to(to.object, to.object, objects + key, number, steps);
+            .move_to(to.object, None, key, number, steps);
     }
 
     // Of the queues of a pool's persistent callbacks, or of its others, the first that isn't empty, or the last.

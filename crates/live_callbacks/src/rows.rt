@@ -10,7 +10,7 @@ ghost use Rattle.std.specs.Option.{option_copied};
 ghost use Rattle.linked_lists.specs.Linked.{owner_of};
 ghost use Rattle.live_callbacks.specs.Held.{AreApart, rows_of};
 
-use crate::beside::place_beside;
+use crate::beside::key_beside;
 use crate::places::{
     Entry, entry_behind, entry_of, first_of_group_from, lent_row, make_place, most_entries,
     place_behind, place_of,
@@ -112,20 +112,14 @@ impl Rows {
         }
     }
 
-    /// The place in a list of a row near to the one of this number, or None where none of those next to it is
-    /// in that list. The keys have their places behind so many of lists.
-    pub fn place_beside(
-        &self,
-        number: u64,
-        lists: &LinkedLists,
-        list: u32,
-        heads: u32,
-    ) -> Option<u32>
+    /// The key in a list of a row near to the one of this number, or None where none of those next to it is in
+    /// that list.
+    pub fn key_beside(&self, number: u64, lists: &LinkedLists, list: u32) -> Option<u32>
         requires { list < length lists.now.lists }
-        ensures { IfSome result (λ place. owner_of lists.now place ≡ list) }
+        ensures { IfSome result (λ key. owner_of lists.now key ≡ list) }
     {
         let at = place_of(&self.entries, number)?;
-        place_beside(&self.entries, at, lists, list, heads)
+        key_beside(&self.entries, at, lists, list)
     }
 
     /// The row under this key.

@@ -200,12 +200,12 @@ returns-clause-bound c pending operating =
     (record {
       line = to.line ∙ no_line i.lists.pools i.lists.objects (6 * r.pool.0 + queue_number r.persistent r.priority) r.object.0 r.status pending operating;
       object =
-          elim (is_tied r) as (λ x. is_tied r ≡ x → (c.stands-to.result.object ≡ i.lists.objects + 1) ⊎ (owner_of i.lists.outstanding (i.lists.objects + 1 + c.unwrap-key.result) ≡ c.stands-to.result.object)) [
+          elim (is_tied r) as (λ x. is_tied r ≡ x → (c.stands-to.result.object ≡ i.lists.objects + 1) ⊎ (owner_of i.lists.outstanding c.unwrap-key.result ≡ c.stands-to.result.object)) [
             | true ↦ λ tied.
                 let was : object_of i.lists.objects b ≡ b.object.0 = ap (λ x. if x then b.object.0 else i.lists.objects + 1) (goes.outstanding tied) in
                 inr
-                (ap (λ n. owner_of i.lists.outstanding (i.lists.objects + 1 + n)) same
-                ∙ owner_is (i.lists.objects + 1) (object_of i.lists.objects) i.rows.held m.is.held m.is.around (object_of i.lists.objects m.is.held.row) refl k.by_object
+                (ap (owner_of i.lists.outstanding) same
+                ∙ owner_is (object_of i.lists.objects) i.rows.held m.is.held m.is.around (object_of i.lists.objects m.is.held.row) refl k.by_object
                 ∙ ap (object_of i.lists.objects) m.is.row
                 ∙ was
                 ∙ sym (ap (λ (o : ObjectId). o.0) goes.object)

@@ -1,10 +1,10 @@
-use Rattle.std.proofs.Common.{◌∙◌, ◌+◌, ◌*◌, ◌==◌, ap, arith, sym}
+use Rattle.std.proofs.Common.{◌∙◌, ◌+◌, ◌*◌, ◌==◌, arith, sym}
 use Rattle.tp_base.specs.declared.rows.CallbackRow.{CallbackRow}
 use Rattle.tp_model.specs.Calls.Io.{is_expected_of}
 use Rattle.tp_model.specs.Counts.{is_expected}
-use Rattle.live_callbacks.specs.Held.{row_behind, rows_of}
-use Rattle.live_callbacks.specs.Lists.{line_of, lines}
-use Rattle.live_callbacks.proofs.Found.{find_none, find_same, first_is, place_held, place_row}
+use Rattle.live_callbacks.specs.Held.{rows_of}
+use Rattle.live_callbacks.specs.Lists.{line_of}
+use Rattle.live_callbacks.proofs.Found.{find_none, find_same, first_is, found_held, found_row}
 use Rattle.live_callbacks.proofs.Lines.{expected_agree, no_object}
 use Rattle.live_callbacks.proofs.LiveCallbacks.first_expected.Goals as goal
 
@@ -15,22 +15,21 @@ returns-then-object-self c =
     rw (← c.self.view_is)
     (sym (find_none (is_expected_of c.args.object.0) cs (no_object i.lists.pools i.lists.objects c.args.object.0 c.if-object-self.true (λ (x : CallbackRow). is_expected x.status) cs c.self.invariant.homes)))
 
-pub lent_behind-requires : goal.lent_behind-requires
-lent_behind-requires c =
+pub lent_under-requires : goal.lent_under-requires
+lent_under-requires c =
     let i = c.self.inside in
     let line = line_of i.lists.pools i.lists.objects in
-    let list = 6 * i.lists.pools + c.args.object.0 in
-    let first = c.first_in-place.ensures ∙ first_is (lines i.lists.pools i.lists.objects) line list i.rows.held c.self.invariant.standing.by_line (omega (arith, c.if-object-self.false)) in
-    rw (c.lists.ensures ∙ c.self.invariant.standing.by_line.many) (place_held (lines i.lists.pools i.lists.objects) i.rows.held c.len-known.ensures.apart (λ x. line x == list) c.first_in-place.result first)
+    let list = 6 * i.lists.pools + 2 * c.args.object.0 in
+    let first = c.first_in.ensures ∙ first_is line list i.rows.held c.self.invariant.standing.by_line (omega (arith, c.if-object-self.false)) in
+    found_held i.rows.held c.len-known.ensures.apart (λ x. line x == list) c.first_in.result first
 
 pub returns : goal.returns
 returns c =
     let i = c.self.inside in
     let line = line_of i.lists.pools i.lists.objects in
-    let list = 6 * i.lists.pools + c.args.object.0 in
-    let first = c.first_in-place.ensures ∙ first_is (lines i.lists.pools i.lists.objects) line list i.rows.held c.self.invariant.standing.by_line (omega (arith, c.if-object-self.false)) in
+    let list = 6 * i.lists.pools + 2 * c.args.object.0 in
+    let first = c.first_in.ensures ∙ first_is line list i.rows.held c.self.invariant.standing.by_line (omega (arith, c.if-object-self.false)) in
     rw (← c.self.view_is)
-    (c.copied.ensures ∙ c.lent_behind.ensures
-    ∙ ap (λ heads. row_behind heads i.rows.held c.first_in-place.result) (c.lists.ensures ∙ c.self.invariant.standing.by_line.many)
-    ∙ place_row (lines i.lists.pools i.lists.objects) i.rows.held c.len-known.ensures.apart (λ x. line x == list) c.first_in-place.result first
+    (c.copied.ensures ∙ c.lent_under.ensures
+    ∙ found_row i.rows.held c.len-known.ensures.apart (λ x. line x == list) c.first_in.result first
     ∙ find_same (λ x. line x == list) (is_expected_of c.args.object.0) (rows_of i.rows.held) (expected_agree i.lists.pools i.lists.objects c.args.object.0 c.if-object-self.false (rows_of i.rows.held) c.self.invariant.homes))

@@ -1,4 +1,4 @@
-use Rattle.std.proofs.Common.{◌≡◌, ◌∙◌, ◌+◌, ◌<◌, ◌≤◌, ◌==◌, ◌&&◌, ℕ, Bool, true, false, List, Some, if◌then◌else◌, is_some, refl, ap, find, nat_lt, sym, arith}
+use Rattle.std.proofs.Common.{◌≡◌, ◌∙◌, ◌+◌, ◌≤◌, ◌==◌, ◌&&◌, ℕ, Bool, true, false, List, Some, if◌then◌else◌, is_some, refl, ap, find, nat_lt, sym, arith}
 use Rattle.std.specs.List.{AllByRecursion}
 use Rattle.tp_base.specs.declared.rows.CallbackRow.{CallbackRow}
 use Rattle.tp_base.specs.declared.rows.WaitTarget.TheVariants.{Object}
@@ -8,7 +8,7 @@ use Rattle.tp_model.specs.Waits.{is_outstanding_for}
 use Rattle.tp_model.proofs.Callbacks.{find_numbered}
 use Rattle.tp_model.proofs.Lists.{find_all, find_passes}
 use Rattle.live_callbacks.specs.Callbacks.{is_tied, outstanding_among}
-use Rattle.live_callbacks.specs.Held.{Held, rows_of}
+use Rattle.live_callbacks.specs.Held.{rows_of}
 use Rattle.live_callbacks.specs.Lists.{IsAtHome, object_of}
 use Rattle.live_callbacks.proofs.Following.{following_held, following_owner, following_row}
 use Rattle.live_callbacks.proofs.Found.{filter_same, find_filter}
@@ -45,19 +45,8 @@ unwrap-key-requires c =
     let is = among k.rising.0 i.rows.held row k.rising.1 c.len-known.ensures.apart out.found in
     ap is_some (c.key_of.ensures ∙ key_found is row.number refl)
 
-pub overflow_add-self-inside-2 : goal.overflow_add-self-inside-2
-overflow_add-self-inside-2 c =
-    let i = c.self.inside in
-    let k = c.self.invariant in
-    let row = c.args.row.now in
-    let out = is_out k.rising.0 i.lists.pools i.lists.objects (rows_of i.rows.held) row k.rising.1 k.homes (rw (← c.self.view_is) at c.requires) in
-    let is = among k.rising.0 i.rows.held row k.rising.1 c.len-known.ensures.apart out.found in
-    let same = key_is is row.number refl c.key_of.result c.unwrap-key.result c.key_of.ensures c.unwrap-key.ensures in
-    let within : is.held.key < i.rows.places = find_all (λ (h : Held). h.key < i.rows.places) (λ (h : Held). h.row.number == row.number) is.held i.rows.held c.len-known.ensures.within is.found in
-    omega (arith, same, within, k.standing.lines_fit)
-
-pub after_in-place-requires : goal.after_in-place-requires
-after_in-place-requires c =
+pub after_in-requires : goal.after_in-requires
+after_in-requires c =
     let i = c.self.inside in
     let k = c.self.invariant in
     let row = c.args.row.now in
@@ -66,15 +55,15 @@ after_in-place-requires c =
     let same = key_is is row.number refl c.key_of.result c.unwrap-key.result c.key_of.ensures c.unwrap-key.ensures in
     omega (arith, following_owner (object_of i.lists.objects) row.object.0 k.standing.by_object c.len-known.ensures.apart is c.unwrap-key.result same out.own (omega (arith, out.within)), out.within, k.standing.by_object.many)
 
-pub lent_behind-requires : goal.lent_behind-requires
-lent_behind-requires c =
+pub lent_under-requires : goal.lent_under-requires
+lent_under-requires c =
     let i = c.self.inside in
     let k = c.self.invariant in
     let row = c.args.row.now in
     let out = is_out k.rising.0 i.lists.pools i.lists.objects (rows_of i.rows.held) row k.rising.1 k.homes (rw (← c.self.view_is) at c.requires) in
     let is = among k.rising.0 i.rows.held row k.rising.1 c.len-known.ensures.apart out.found in
     let same = key_is is row.number refl c.key_of.result c.unwrap-key.result c.key_of.ensures c.unwrap-key.ensures in
-    following_held (object_of i.lists.objects) row.object.0 k.standing.by_object c.len-known.ensures.apart is c.unwrap-key.result same out.own (omega (arith, out.within)) c.after_in-place.result c.after_in-place.ensures
+    following_held (object_of i.lists.objects) row.object.0 k.standing.by_object c.len-known.ensures.apart is c.unwrap-key.result same out.own (omega (arith, out.within)) c.after_in.result c.after_in.ensures
 
 pub returns : goal.returns
 returns c =
@@ -85,6 +74,6 @@ returns c =
     let is = among k.rising.0 i.rows.held row k.rising.1 c.len-known.ensures.apart out.found in
     let same = key_is is row.number refl c.key_of.result c.unwrap-key.result c.key_of.ensures c.unwrap-key.ensures in
     rw (← c.self.view_is)
-    (c.lent_behind.ensures
-    ∙ following_row (object_of i.lists.objects) row.object.0 k.standing.by_object c.len-known.ensures.apart is c.unwrap-key.result same out.own (omega (arith, out.within)) c.after_in-place.result c.after_in-place.ensures
+    (c.lent_under.ensures
+    ∙ following_row (object_of i.lists.objects) row.object.0 k.standing.by_object c.len-known.ensures.apart is c.unwrap-key.result same out.own (omega (arith, out.within)) c.after_in.result c.after_in.ensures
     ∙ ap (find (λ x. nat_lt row.number x.number)) (filter_same (λ x. object_of i.lists.objects x == row.object.0) (is_outstanding_for (Object row.object)) (rows_of i.rows.held) (outstanding_agree i.lists.objects row.object out.within (rows_of i.rows.held))))
