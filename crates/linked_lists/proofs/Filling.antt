@@ -1,13 +1,13 @@
 -- What nodes show, as they are filled, linked and numbered.
-use Rattle.std.proofs.Common.{◌≡◌, ◌≢◌, ℕ, ◌+◌, ◌*◌, ◌≤◌, ◌<◌, ◌^◌, List, [], ◌∷◌, ◌++◌, length, set, get_or, replicate, refl, sym, ap, subst, ◌∙◌, arith, ⊎_elim}
+use Rattle.std.proofs.Common.{◌≡◌, ◌≢◌, ℕ, ◌+◌, ◌*◌, ◌≤◌, ◌<◌, List, [], ◌∷◌, ◌++◌, length, set, get_or, replicate, refl, sym, ap, ◌∙◌, arith, ⊎_elim}
 use Rattle.std.specs.List.{range_with_len}
 use Rattle.std.proofs.lemmas.Bool.{cases_eq, cases_lt}
-use Rattle.std.proofs.lemmas.List.{get_or_append_left, get_or_past, get_or_push, get_or-replicate, get_or-set_same, get_or-set_other, get_or_read, length_push, length-replicate, length-set}
+use Rattle.std.proofs.lemmas.List.{get_or_append_left, get_or_past, get_or_push, get_or-replicate, get_or-set_same, get_or-set_other, length_push, length-replicate, length-set}
 use Rattle.std.proofs.lemmas.List.FromFn.{get_or-range_with_len, length-range_with_len}
 use Rattle.linked_lists.specs.declared.nodes.Node.{Node}
 use Rattle.linked_lists.specs.Nodes.{AreFilled, Arena, IsPlace, IsPlaceIn, IsRead, alone, arena_of, code, each, here, linked, node_at, place_at}
 use Rattle.linked_lists.proofs.Each.{each_is, each_set, get_or-each, length-each}
-use Rattle.linked_lists.proofs.Places.{code_back, code_even, key_is_place, key_place}
+use Rattle.linked_lists.proofs.Places.{code_back, key_place}
 
 -- one more that follows itself
 pub same_pushed : (nodes : List Node) (k : ℕ) → node_at (nodes ++ alone (length nodes) ∷ []) k ≡ node_at nodes k
@@ -82,7 +82,7 @@ module _ (nodes old : List Node) (a b : ℕ) (first second : Node) (in_a : a < l
 module _ (keys lists : ℕ) where
   -- ---- none is filled
 
-  pub shows_opened : arena_of keys lists [] ≡ record { numbers = replicate keys 0; after = range_with_len 0 (keys + lists); before = range_with_len 0 (keys + lists) }
+  pub shows_opened : arena_of keys lists [] ≡ record { numbers = replicate keys 0; after = range_with_len 0 (keys + lists); before = range_with_len 0 (keys + lists); reached = 0 }
   shows_opened =
       let total = keys + lists in
       let f : ℕ → ℕ = λ c. code keys (place_at keys c) in
@@ -136,12 +136,44 @@ module _ (keys lists : ℕ) where
           before = rw (here_is p, here_is (node_at nodes p).before) (before_at p there);
           on = in_place (node_at nodes p).after (filled.on p there);
           back = in_place (node_at nodes p).before (filled.back p there);
+          near = filled.near p;
+          alone = λ past. ap (λ (n : Node). n.after) (get_or_past nodes p (alone p) past);
         }
 
     -- ---- what is written
 
+    -- more of them
+    module _ (new : List Node) (same : (x : ℕ) → node_at new x ≡ node_at nodes x) where
+      pub shows_reached : arena_of keys lists new ≡ record arena { reached = length new }
+      shows_reached =
+          let numbers = each_is keys (λ k. (node_at new (2 * k)).number) arena.numbers keys_many
+          (λ i lt. ap (λ (n : Node). n.number) (same (2 * i)) ∙ sym (get_or-each keys (λ k. (node_at nodes (2 * k)).number) i 0 lt))
+          in
+          let after = each_is (keys + lists) (λ c. code keys (node_at new (place_at keys c)).after) arena.after total_many
+          (λ i lt. ap (λ (n : Node). code keys n.after) (same (place_at keys i)) ∙ sym (get_or-each (keys + lists) (λ c. code keys (node_at nodes (place_at keys c)).after) i 0 lt))
+          in
+          let before = each_is (keys + lists) (λ c. code keys (node_at new (place_at keys c)).before) arena.before (length-each (keys + lists) (λ c. code keys (node_at nodes (place_at keys c)).before))
+          (λ i lt. ap (λ (n : Node). code keys n.before) (same (place_at keys i)) ∙ sym (get_or-each (keys + lists) (λ c. code keys (node_at nodes (place_at keys c)).before) i 0 lt))
+          in
+          rw (numbers, after, before) refl
+
+      pub filled_reached : (capacity : ℕ) → length nodes ≤ length new → AreFilled keys lists capacity nodes → AreFilled keys lists capacity new
+      filled_reached capacity more filled = record {
+        on = λ p is_p. rw (same p) (filled.on p is_p);
+        back = λ p is_p. rw (same p) (filled.back p is_p);
+        near = λ p lt.
+            ⊎_elim
+            (λ (old : p < length nodes). let at = filled.near p old in rw (same p) (omega (arith, at.0, more), omega (arith, at.1, more)))
+            (λ (past : length nodes ≤ p). rw (same p, get_or_past nodes p (alone p) past) (lt, lt))
+            (cases_lt p (length nodes));
+        keys_reserved = filled.keys_reserved;
+        lists_reserved = filled.lists_reserved;
+        keys_fit = filled.keys_fit;
+        lists_fit = filled.lists_fit;
+      }
+
     -- another number
-    module _ (new : List Node) (key number : ℕ) (within : key < keys) (is : (node_at new (2 * key)).number ≡ number) (same : (x : ℕ) → x ≢ 2 * key → (node_at new x).number ≡ (node_at nodes x).number) (on : (x : ℕ) → (node_at new x).after ≡ (node_at nodes x).after) (back : (x : ℕ) → (node_at new x).before ≡ (node_at nodes x).before) where
+    module _ (new : List Node) (key number : ℕ) (within : key < keys) (is : (node_at new (2 * key)).number ≡ number) (same : (x : ℕ) → x ≢ 2 * key → (node_at new x).number ≡ (node_at nodes x).number) (on : (x : ℕ) → (node_at new x).after ≡ (node_at nodes x).after) (back : (x : ℕ) → (node_at new x).before ≡ (node_at nodes x).before) (many : length new ≡ length nodes) where
       pub shows_numbered : arena_of keys lists new ≡ record arena { numbers = set arena.numbers key number }
       shows_numbered =
           let numbers = each_set keys (λ k. (node_at nodes (2 * k)).number) (λ k. (node_at new (2 * k)).number) key number within is (λ j apart. same (2 * j) (λ e. apart (omega (arith, e)))) in
@@ -151,12 +183,13 @@ module _ (keys lists : ℕ) where
           let before = each_is (keys + lists) (λ c. code keys (node_at new (place_at keys c)).before) arena.before (length-each (keys + lists) (λ c. code keys (node_at nodes (place_at keys c)).before))
           (λ i lt. ap (code keys) (back (place_at keys i)) ∙ sym (get_or-each (keys + lists) (λ c. code keys (node_at nodes (place_at keys c)).before) i 0 lt))
           in
-          rw (numbers, after, before) refl
+          rw (numbers, after, before, many) refl
 
       pub filled_numbered : (capacity : ℕ) → AreFilled keys lists capacity nodes → AreFilled keys lists capacity new
       filled_numbered capacity filled = record {
         on = λ p is_p. rw (on p) (filled.on p is_p);
         back = λ p is_p. rw (back p) (filled.back p is_p);
+        near = λ p lt. rw (on p, back p, many) (filled.near p (omega (arith, lt, many)));
         keys_reserved = filled.keys_reserved;
         lists_reserved = filled.lists_reserved;
         keys_fit = filled.keys_fit;
@@ -168,7 +201,7 @@ module _ (keys lists : ℕ) where
         (new : List Node) (a b : ℕ) (is_a : IsPlaceIn keys (keys + lists) a) (is_b : IsPlaceIn keys (keys + lists) b)
         (on_a : (node_at new a).after ≡ b) (on_else : (x : ℕ) → x ≢ a → (node_at new x).after ≡ (node_at nodes x).after)
         (back_b : (node_at new b).before ≡ a) (back_else : (x : ℕ) → x ≢ b → (node_at new x).before ≡ (node_at nodes x).before)
-        (numbers : (x : ℕ) → (node_at new x).number ≡ (node_at nodes x).number) where
+        (numbers : (x : ℕ) → (node_at new x).number ≡ (node_at nodes x).number) (many : length new ≡ length nodes) where
       apart_place : (j p : ℕ) → j ≢ code keys p → place_at keys j ≢ p
       apart_place j p apart e = apart (sym (code_back keys j) ∙ ap (code keys) e)
 
@@ -185,10 +218,10 @@ module _ (keys lists : ℕ) where
           (ap (λ q. code keys (node_at new q).before) is_b.back ∙ ap (code keys) back_b)
           (λ j apart. ap (code keys) (back_else (place_at keys j) (apart_place j b apart)))
           in
-          rw (same, after, before) refl
+          rw (same, after, before, many) refl
 
-      pub filled_linked : (capacity : ℕ) → AreFilled keys lists capacity nodes → AreFilled keys lists capacity new
-      filled_linked capacity filled = record {
+      pub filled_linked : (capacity : ℕ) → a < length nodes → b < length nodes → AreFilled keys lists capacity nodes → AreFilled keys lists capacity new
+      filled_linked capacity in_a in_b filled = record {
         on = λ p is_p.
             ⊎_elim
             (λ (same : p ≡ a). rw (same, on_a) is_b)
@@ -199,6 +232,18 @@ module _ (keys lists : ℕ) where
             (λ (same : p ≡ b). rw (same, back_b) is_a)
             (λ (apart : p ≢ b). rw (back_else p apart) (filled.back p is_p))
             (cases_eq p b);
+        near = λ p lt.
+            let old = filled.near p (omega (arith, lt, many)) in
+            rw many (
+              ⊎_elim
+                  (λ (same : p ≡ a). rw (same, on_a) in_b)
+                  (λ (apart : p ≢ a). rw (on_else p apart) old.0)
+                  (cases_eq p a),
+              ⊎_elim
+                  (λ (same : p ≡ b). rw (same, back_b) in_a)
+                  (λ (apart : p ≢ b). rw (back_else p apart) old.1)
+                  (cases_eq p b),
+            );
         keys_reserved = filled.keys_reserved;
         lists_reserved = filled.lists_reserved;
         keys_fit = filled.keys_fit;

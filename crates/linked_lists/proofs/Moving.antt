@@ -3,7 +3,7 @@ use Rattle.std.proofs.Common.{◌≡◌, ◌≢◌, ◌==◌, ℕ, zero, suc, �
 use Rattle.std.proofs.lemmas.Bool.{cases_eq, cases_lt}
 use Rattle.std.proofs.lemmas.List.{get_or_past}
 use Rattle.std.proofs.lemmas.List.Kept.{AllPairs-filter}
-use Rattle.linked_lists.specs.Linked.{AreInOrder, AreOwned, IsFree, Linked, is_below, list_of, moved, owner_of, times}
+use Rattle.linked_lists.specs.Linked.{AreInOrder, AreOwned, IsFree, Linked, is_below, list_of, moved, owner_of, times, with_number}
 use Rattle.linked_lists.specs.Moved.{IsEntered, IsLeft, IsMoved, with_key, without}
 use Rattle.linked_lists.proofs.Runs.{tally_other, tally_same}
 
@@ -35,12 +35,6 @@ module _ (place : ℕ) where
       (λ (same : x ≡ place). rw (eq-eqb x place same) (none_without xs))
       (λ (apart : x ≢ place). rw (ne_eqb x place apart) (omega (arith, tally_other x place apart, none_without xs)))
       (cases_eq x place)
-
-  pub order_apart : (old new : List ℕ) → ((q : ℕ) → q ≢ place → slice_index new q ≡ slice_index old q) → (xs : List ℕ) → times place xs ≡ 0 → AreInOrder old xs → AreInOrder new xs
-  order_apart old new same xs none order i j d lt within =
-      let first = same (get_or xs i d) (held_apart xs i d none (omega arith)) in
-      let second = same (get_or xs j d) (held_apart xs j d none within) in
-      omega (arith, first, second, order i j d lt within)
 
 -- ---- a place gets a list, and the list places
 
@@ -113,9 +107,6 @@ module _ (old : Linked) (place list number : ℕ) (are : AreOwned old) (held : p
   none_there : (x : ℕ) → x < length old.lists → times place (list_of old x) ≡ 0
   none_there x lt = none_in old place x are free.in_none lt
 
-  pub order_there : AreInOrder old.numbers (list_of old list) → AreInOrder numbered (list_of old list)
-  order_there order = order_apart place old.numbers numbered same_numbers (list_of old list) (none_there list within) order
-
   with_there : with_key numbered number place (list_of old list) ≡ with_key old.numbers number place (list_of old list)
   with_there =
       let below : (p : ℕ) → p ≢ place → is_below numbered number p ≡ is_below old.numbers number p = λ p apart. ap (λ n. ltb n number) (same_numbers p apart) in
@@ -124,7 +115,7 @@ module _ (old : Linked) (place list number : ℕ) (are : AreOwned old) (held : p
       (filter_apart place (is_below numbered number) (is_below old.numbers number) below (list_of old list) none)
       (filter_apart place (λ p. not (is_below numbered number p)) (λ p. not (is_below old.numbers number p)) (λ p apart. ap not (below p apart)) (list_of old list) none)
 
-  pub entered : IsEntered old (moved (record old { numbers = numbered }) place list list (with_key numbered number place (list_of old list))) place list number
+  entered : IsEntered old (moved (record old { numbers = numbered }) place list list (with_key numbered number place (list_of old list))) place list number
   entered =
       let s : Linked = record old { numbers = numbered } in
       let places = with_key numbered number place (list_of old list) in
@@ -141,6 +132,9 @@ module _ (old : Linked) (place list number : ℕ) (are : AreOwned old) (held : p
         numbers = same_numbers;
         known = get_or-set_same old.numbers place number 0 free.there;
       }
+
+  pub entered_between : IsEntered old (moved (with_number old place number) place list list (with_key old.numbers number place (list_of old list))) place list number
+  entered_between = subst (λ keys. IsEntered old (moved (with_number old place number) place list list keys) place list number) with_there entered
 
 -- ---- and both
 

@@ -40,8 +40,8 @@ impl Model for Nodes {
 }
 
 // Adds nodes that follow themselves until there is one at this place.
-#[inline(always)]
-fn reach(nodes: &mut Vec<Node>, place: u32)
+#[inline(never)]
+fn fill(nodes: &mut Vec<Node>, place: u32)
     requires { place < vec_capacity nodes.old }
     ensures many { length nodes.new.items ≡ max (length nodes.old.items) (place + 1) }
     ensures same { (k : ℕ) → node_at nodes.new.items k ≡ node_at nodes.old.items k }
@@ -66,6 +66,7 @@ impl Nodes {
           numbers = replicate keys 0;
           after = range_with_len 0 (keys + lists);
           before = range_with_len 0 (keys + lists);
+          reached = 0;
         }) }
     {
         if lists.max(keys) > 1 << 31 {
@@ -96,6 +97,17 @@ impl Nodes {
     {
         let _lists = self.lists;
         2 * list + 1
+    }
+
+    /// Fills all places up to this one.
+    #[inline(always)]
+    pub fn reach(&mut self, place: u32)
+        requires { IsPlace self.old place }
+        ensures { self.new ≡ record self.old { reached = max self.old.reached (place + 1) } }
+    {
+        if self.nodes.len() <= place as usize {
+            fill(&mut self.nodes, place);
+        }
     }
 
     /// The key at a place, or None at an end.
@@ -137,9 +149,10 @@ impl Nodes {
     pub fn link(&mut self, before: u32, after: u32)
         requires first { IsPlace self.old before }
         requires second { IsPlace self.old after }
+        requires first_reached { before < self.old.reached }
+        requires second_reached { after < self.old.reached }
         ensures { self.new ≡ linked (here self.old before) (here self.old after) self.old }
     {
-        reach(&mut self.nodes, before.max(after));
         self.nodes[before as usize].after = after;
         self.nodes[after as usize].before = before;
     }
@@ -147,10 +160,10 @@ impl Nodes {
     /// Gives a key this number.
     #[inline(always)]
     pub fn set_number(&mut self, key: u32, number: u64)
-        requires { key < length self.old.numbers }
+        requires key { key < length self.old.numbers }
+        requires reached { 2 * key < self.old.reached }
         ensures { self.new ≡ record self.old { numbers = slice_set self.old.numbers key number } }
     {
-        reach(&mut self.nodes, 2 * key);
         self.nodes[2 * key as usize].number = number;
     }
 }
