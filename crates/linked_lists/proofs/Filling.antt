@@ -173,7 +173,10 @@ module _ (keys lists : ℕ) where
       }
 
     -- another number
-    module _ (new : List Node) (key number : ℕ) (within : key < keys) (is : (node_at new (2 * key)).number ≡ number) (same : (x : ℕ) → x ≢ 2 * key → (node_at new x).number ≡ (node_at nodes x).number) (on : (x : ℕ) → (node_at new x).after ≡ (node_at nodes x).after) (back : (x : ℕ) → (node_at new x).before ≡ (node_at nodes x).before) (many : length new ≡ length nodes) where
+    module _
+        (new : List Node) (key number : ℕ) (within : key < keys) (is : (node_at new (2 * key)).number ≡ number)
+        (same : (x : ℕ) → x ≢ 2 * key → (node_at new x).number ≡ (node_at nodes x).number)
+        (on : (x : ℕ) → (node_at new x).after ≡ (node_at nodes x).after) (back : (x : ℕ) → (node_at new x).before ≡ (node_at nodes x).before) (many : length new ≡ length nodes) where
       pub shows_numbered : arena_of keys lists new ≡ record arena { numbers = set arena.numbers key number }
       shows_numbered =
           let numbers = each_set keys (λ k. (node_at nodes (2 * k)).number) (λ k. (node_at new (2 * k)).number) key number within is (λ j apart. same (2 * j) (λ e. apart (omega (arith, e)))) in

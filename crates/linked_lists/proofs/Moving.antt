@@ -1,5 +1,6 @@
 -- What is told of lists as a key leaves one and comes into another.
-use Rattle.std.proofs.Common.{◌≡◌, ◌≢◌, ◌==◌, ℕ, zero, suc, ◌≤◌, ◌<◌, Bool, not, List, [], ◌∷◌, ◌++◌, Option, None, Some, IfSome, filter, length, get_or, set, slice_index, if◌then◌else◌, refl, sym, ap, ap₂, subst, ◌∙◌, arith, ltb, ⊎_elim, ne_eqb, eq-eqb, length-set, get_or-set_same, get_or-set_other}
+use Rattle.std.proofs.Common.{◌≡◌, ◌≢◌, ◌==◌, ℕ, zero, suc, ◌≤◌, ◌<◌, Bool, not, List, [], ◌∷◌, ◌++◌, Option, None, Some, IfSome, filter, length, get_or, set, slice_index, if◌then◌else◌}
+use Rattle.std.proofs.Common.{refl, sym, ap, ap₂, subst, ◌∙◌, arith, ltb, ⊎_elim, ne_eqb, eq-eqb, length-set, get_or-set_same, get_or-set_other}
 use Rattle.std.proofs.lemmas.Bool.{cases_eq, cases_lt}
 use Rattle.std.proofs.lemmas.List.{get_or_past}
 use Rattle.std.proofs.lemmas.List.Kept.{AllPairs-filter}
