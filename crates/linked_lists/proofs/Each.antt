@@ -40,10 +40,7 @@ get_or-padded room fill items i within =
     (λ (past : room ≤ i). get_or_past (each room (λ k. get_or items k fill)) i fill (omega (arith, past, length-each room (λ k. get_or items k fill))) ∙ sym (get_or_past items i fill (omega (arith, past, within))))
     (cases_lt i room)
 
-pub get_or_at : (room fill : ℕ) (items : List ℕ) (i : ℕ) → i < room → get_or (each room (λ k. get_or items k fill)) i 0 ≡ get_or items i fill
-get_or_at room fill items i lt = get_or-each room (λ k. get_or items k fill) i 0 lt
-
-pub padded_none : (room fill : ℕ) → padded room fill [] ≡ record { fill = fill; items = replicate room fill; reached = 0 }
+pub padded_none : (room fill : ℕ) → padded room fill [] ≡ record { fill = fill; filled = 0; items = replicate room fill }
 padded_none room fill =
     let same : each room (λ k. fill) ≡ replicate room fill = each_is room (λ k. fill) (replicate room fill) (length-replicate room fill) (λ i lt. sym (get_or-replicate room i fill 0 lt)) in
     rw same refl
@@ -55,14 +52,14 @@ fill_pushed [] fill (suc k) = refl
 fill_pushed (x ∷ xs) fill zero = refl
 fill_pushed (x ∷ xs) fill (suc k) = fill_pushed xs fill k
 
--- more of them are filled
-pub padded_reached : (room fill : ℕ) (old new : List ℕ) → ((k : ℕ) → get_or new k fill ≡ get_or old k fill) → padded room fill new ≡ record (padded room fill old) { reached = length new }
-padded_reached room fill old new same =
-    let is = each_is room (λ k. get_or new k fill) (each room (λ k. get_or old k fill)) (length-each room (λ k. get_or old k fill)) (λ i lt. same i ∙ sym (get_or-each room (λ k. get_or old k fill) i 0 lt)) in
-    rw is refl
-
--- another number
+-- another number, which is filled
 pub padded_set : (room fill : ℕ) (items : List ℕ) (i v : ℕ) → i < room → i < length items → padded room fill (set items i v) ≡ record (padded room fill items) { items = set (each room (λ k. get_or items k fill)) i v }
 padded_set room fill items i v within there =
     let is = each_set room (λ k. get_or items k fill) (λ k. get_or (set items i v) k fill) i v within (get_or-set_same items i v fill there) (λ j apart. get_or-set_other items i j v fill apart) in
     rw (is, length-set items i v) refl
+
+-- more that are filled
+pub padded_more : (room fill n : ℕ) (old new : List ℕ) → length new ≡ n → ((k : ℕ) → get_or new k fill ≡ get_or old k fill) → padded room fill new ≡ record (padded room fill old) { filled = n }
+padded_more room fill n old new many same =
+    let is = each_is room (λ k. get_or new k fill) (each room (λ k. get_or old k fill)) (length-each room (λ k. get_or old k fill)) (λ i lt. same i ∙ sym (get_or-each room (λ k. get_or old k fill) i 0 lt)) in
+    rw (is, many) refl

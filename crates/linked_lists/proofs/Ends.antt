@@ -86,16 +86,3 @@ module _ (after before : ℕ → ℕ) where
       rw (eq-eqb x p same) (first_some x e xs run.1 (λ far. apart (ap after (sym same) ∙ far)) ∙ ap (λ q. Some (after q)) same))
       (λ (other : x ≢ p). rw (ne_eqb x p other) (next_some x e p xs run.1 (omega (arith, there, tally_other x p other)) apart))
       (cases_eq x p)
-
-  -- one of them, or the one before them all, doesn't follow itself
-  pub not_alone : (u e a : ℕ) (ps : List ℕ) → Run after before u ps e → times a (u ∷ ps) ≡ 1 → a ≢ e → after a ≢ a
-  not_alone u e a [] run once apart is =
-      ⊎_elim
-      (λ (same : u ≡ a). apart (sym is ∙ ap after (sym same) ∙ run.on))
-      (λ (other : u ≢ a). absurd (omega (arith, once, tally_other u a other)))
-      (cases_eq u a)
-  not_alone u e a (x ∷ xs) run once apart is =
-      ⊎_elim
-      (λ (same : u ≡ a). absurd (omega (arith, once, tally_same u a same, tally_same x a (sym run.0.on ∙ ap after same ∙ is))))
-      (λ (other : u ≢ a). not_alone x e a xs run.1 (omega (arith, once, tally_other u a other)) apart is)
-      (cases_eq u a)

@@ -1,5 +1,5 @@
 -- What nodes show, as they are filled, linked and numbered.
-use Rattle.std.proofs.Common.{◌≡◌, ◌≢◌, ℕ, ◌+◌, ◌*◌, ◌≤◌, ◌<◌, List, [], ◌∷◌, ◌++◌, length, set, get_or, replicate, refl, sym, ap, ◌∙◌, arith, ⊎_elim}
+use Rattle.std.proofs.Common.{◌≡◌, ◌≢◌, ℕ, ◌+◌, ◌*◌, ◌/◌, ◌≤◌, ◌<◌, max, List, [], ◌∷◌, ◌++◌, length, set, get_or, replicate, refl, sym, ap, ◌∙◌, arith, ⊎_elim}
 use Rattle.std.specs.List.{range_with_len}
 use Rattle.std.proofs.lemmas.Bool.{cases_eq, cases_lt}
 use Rattle.std.proofs.lemmas.List.{get_or_append_left, get_or_past, get_or_push, get_or-replicate, get_or-set_same, get_or-set_other, length_push, length-replicate, length-set}
@@ -38,7 +38,7 @@ field_kept f nodes i node within same x =
     (cases_eq x i)
 
 -- two nodes in the array are linked
-module _ (nodes old : List Node) (a b : ℕ) (first second : Node) (in_a : a < length nodes) (in_b : b < length nodes) (first_is : first ≡ node_at nodes a) (same : (x : ℕ) → node_at nodes x ≡ node_at old x) where
+module _ (nodes : List Node) (a b : ℕ) (first second : Node) (in_a : a < length nodes) (in_b : b < length nodes) (first_is : first ≡ node_at nodes a) where
   half : Node
   half = record first { after = b }
 
@@ -57,32 +57,30 @@ module _ (nodes old : List Node) (a b : ℕ) (first second : Node) (in_a : a < l
     unfolding half left
     on_a = field_kept (λ n. n.after) left b (record second { before = a }) in_left (ap (λ (n : Node). n.after) second_is) a ∙ ap (λ (n : Node). n.after) (node_set nodes a half in_a)
 
-    pub on_else : (x : ℕ) → x ≢ a → (node_at new x).after ≡ (node_at old x).after
+    pub on_else : (x : ℕ) → x ≢ a → (node_at new x).after ≡ (node_at nodes x).after
     unfolding half left
-    on_else x apart = field_kept (λ n. n.after) left b (record second { before = a }) in_left (ap (λ (n : Node). n.after) second_is) x ∙ ap (λ (n : Node). n.after) (node_set_else nodes a x half apart ∙ same x)
+    on_else x apart = field_kept (λ n. n.after) left b (record second { before = a }) in_left (ap (λ (n : Node). n.after) second_is) x ∙ ap (λ (n : Node). n.after) (node_set_else nodes a x half apart)
 
     pub back_b : (node_at new b).before ≡ a
     unfolding half left
     back_b = ap (λ (n : Node). n.before) (node_set left b (record second { before = a }) in_left)
 
-    pub back_else : (x : ℕ) → x ≢ b → (node_at new x).before ≡ (node_at old x).before
+    pub back_else : (x : ℕ) → x ≢ b → (node_at new x).before ≡ (node_at nodes x).before
     unfolding half left
     back_else x apart =
         ap (λ (n : Node). n.before) (node_set_else left b x (record second { before = a }) apart)
         ∙ field_kept (λ n. n.before) nodes a half in_a (ap (λ (n : Node). n.before) first_is) x
-        ∙ ap (λ (n : Node). n.before) (same x)
 
-    pub numbers_kept : (x : ℕ) → (node_at new x).number ≡ (node_at old x).number
+    pub numbers_kept : (x : ℕ) → (node_at new x).number ≡ (node_at nodes x).number
     unfolding half left
     numbers_kept x =
         field_kept (λ n. n.number) left b (record second { before = a }) in_left (ap (λ (n : Node). n.number) second_is) x
         ∙ field_kept (λ n. n.number) nodes a half in_a (ap (λ (n : Node). n.number) first_is) x
-        ∙ ap (λ (n : Node). n.number) (same x)
 
 module _ (keys lists : ℕ) where
   -- ---- none is filled
 
-  pub shows_opened : arena_of keys lists [] ≡ record { numbers = replicate keys 0; after = range_with_len 0 (keys + lists); before = range_with_len 0 (keys + lists); reached = 0 }
+  pub shows_opened : arena_of keys lists [] ≡ record { numbers = replicate keys 0; after = range_with_len 0 (keys + lists); before = range_with_len 0 (keys + lists); turns = 0 }
   shows_opened =
       let total = keys + lists in
       let f : ℕ → ℕ = λ c. code keys (place_at keys c) in
@@ -127,25 +125,25 @@ module _ (keys lists : ℕ) where
         let f : ℕ → ℕ = λ c. code keys (node_at nodes (place_at keys c)).before in
         sym (get_or-each (keys + lists) f (code keys p) 0 is.within ∙ ap (λ q. code keys (node_at nodes q).before) is.back)
 
-    pub read_of : (capacity : ℕ) → AreFilled keys lists capacity nodes → (p : ℕ) → IsPlace arena p → IsRead arena p (node_at nodes p)
-    read_of capacity filled p is =
+    pub read_of : (capacity : ℕ) → AreFilled keys lists capacity nodes → (p : ℕ) → IsPlace arena p → p < length nodes → IsRead arena p (node_at nodes p)
+    read_of capacity filled p is lt =
         let there = place_in p is in
         record {
-          number = λ lt. rw (here_is p) (number_at p there (omega (arith, rw (here_is p, keys_many) at lt)));
+          number = λ few. rw (here_is p) (number_at p there (omega (arith, rw (here_is p, keys_many) at few)));
           after = rw (here_is p, here_is (node_at nodes p).after) (after_at p there);
           before = rw (here_is p, here_is (node_at nodes p).before) (before_at p there);
           on = in_place (node_at nodes p).after (filled.on p there);
           back = in_place (node_at nodes p).before (filled.back p there);
-          near = filled.near p;
-          alone = λ past. ap (λ (n : Node). n.after) (get_or_past nodes p (alone p) past);
+          on_filled = omega (arith, filled.on_filled p lt, filled.whole);
+          back_filled = omega (arith, filled.back_filled p lt, filled.whole);
         }
 
     -- ---- what is written
 
-    -- more of them
-    module _ (new : List Node) (same : (x : ℕ) → node_at new x ≡ node_at nodes x) where
-      pub shows_reached : arena_of keys lists new ≡ record arena { reached = length new }
-      shows_reached =
+    -- more that follow themselves
+    module _ (new : List Node) (turn : ℕ) (same : (k : ℕ) → node_at new k ≡ node_at nodes k) (many : length new ≡ max (length nodes) (2 * turn + 1 + 1)) where
+      pub shows_reached : (whole : length nodes ≡ 2 * (length nodes / 2)) → arena_of keys lists new ≡ record arena { turns = max arena.turns (turn + 1) }
+      shows_reached whole =
           let numbers = each_is keys (λ k. (node_at new (2 * k)).number) arena.numbers keys_many
           (λ i lt. ap (λ (n : Node). n.number) (same (2 * i)) ∙ sym (get_or-each keys (λ k. (node_at nodes (2 * k)).number) i 0 lt))
           in
@@ -155,17 +153,24 @@ module _ (keys lists : ℕ) where
           let before = each_is (keys + lists) (λ c. code keys (node_at new (place_at keys c)).before) arena.before (length-each (keys + lists) (λ c. code keys (node_at nodes (place_at keys c)).before))
           (λ i lt. ap (λ (n : Node). code keys n.before) (same (place_at keys i)) ∙ sym (get_or-each (keys + lists) (λ c. code keys (node_at nodes (place_at keys c)).before) i 0 lt))
           in
-          rw (numbers, after, before) refl
+          let turns : length new / 2 ≡ max (length nodes / 2) (turn + 1) = omega (arith, many, whole) in
+          rw (numbers, after, before, turns) refl
 
-      pub filled_reached : (capacity : ℕ) → length nodes ≤ length new → AreFilled keys lists capacity nodes → AreFilled keys lists capacity new
-      filled_reached capacity more filled = record {
+      -- a link of one that is new
+      own_link : (f : Node → ℕ) → ((p : ℕ) → f (alone p) ≡ p) → ((p : ℕ) → p < length nodes → f (node_at nodes p) < length nodes) → (p : ℕ) → p < length new → f (node_at new p) < length new
+      own_link f own old p lt =
+          ⊎_elim
+          (λ (within : p < length nodes). omega (arith, ap f (same p), old p within, many))
+          (λ (far : length nodes ≤ p). omega (arith, ap f (same p ∙ get_or_past nodes p (alone p) far) ∙ own p, lt))
+          (cases_lt p (length nodes))
+
+      pub filled_reached : (capacity : ℕ) → AreFilled keys lists capacity nodes → AreFilled keys lists capacity new
+      filled_reached capacity filled = record {
         on = λ p is_p. rw (same p) (filled.on p is_p);
         back = λ p is_p. rw (same p) (filled.back p is_p);
-        near = λ p lt.
-            ⊎_elim
-            (λ (old : p < length nodes). let at = filled.near p old in rw (same p) (omega (arith, at.0, more), omega (arith, at.1, more)))
-            (λ (past : length nodes ≤ p). rw (same p, get_or_past nodes p (alone p) past) (lt, lt))
-            (cases_lt p (length nodes));
+        on_filled = own_link (λ n. n.after) (λ p. refl) filled.on_filled;
+        back_filled = own_link (λ n. n.before) (λ p. refl) filled.back_filled;
+        whole = omega (arith, many, filled.whole);
         keys_reserved = filled.keys_reserved;
         lists_reserved = filled.lists_reserved;
         keys_fit = filled.keys_fit;
@@ -174,9 +179,9 @@ module _ (keys lists : ℕ) where
 
     -- another number
     module _
-        (new : List Node) (key number : ℕ) (within : key < keys) (is : (node_at new (2 * key)).number ≡ number)
-        (same : (x : ℕ) → x ≢ 2 * key → (node_at new x).number ≡ (node_at nodes x).number)
-        (on : (x : ℕ) → (node_at new x).after ≡ (node_at nodes x).after) (back : (x : ℕ) → (node_at new x).before ≡ (node_at nodes x).before) (many : length new ≡ length nodes) where
+        (new : List Node) (key number : ℕ) (many : length new ≡ length nodes) (within : key < keys)
+        (is : (node_at new (2 * key)).number ≡ number) (same : (x : ℕ) → x ≢ 2 * key → (node_at new x).number ≡ (node_at nodes x).number)
+        (on : (x : ℕ) → (node_at new x).after ≡ (node_at nodes x).after) (back : (x : ℕ) → (node_at new x).before ≡ (node_at nodes x).before) where
       pub shows_numbered : arena_of keys lists new ≡ record arena { numbers = set arena.numbers key number }
       shows_numbered =
           let numbers = each_set keys (λ k. (node_at nodes (2 * k)).number) (λ k. (node_at new (2 * k)).number) key number within is (λ j apart. same (2 * j) (λ e. apart (omega (arith, e)))) in
@@ -192,7 +197,9 @@ module _ (keys lists : ℕ) where
       filled_numbered capacity filled = record {
         on = λ p is_p. rw (on p) (filled.on p is_p);
         back = λ p is_p. rw (back p) (filled.back p is_p);
-        near = λ p lt. rw (on p, back p, many) (filled.near p (omega (arith, lt, many)));
+        on_filled = λ p lt. rw (on p, many) (filled.on_filled p (rw many at lt));
+        back_filled = λ p lt. rw (back p, many) (filled.back_filled p (rw many at lt));
+        whole = rw many filled.whole;
         keys_reserved = filled.keys_reserved;
         lists_reserved = filled.lists_reserved;
         keys_fit = filled.keys_fit;
@@ -201,10 +208,10 @@ module _ (keys lists : ℕ) where
 
     -- a link
     module _
-        (new : List Node) (a b : ℕ) (is_a : IsPlaceIn keys (keys + lists) a) (is_b : IsPlaceIn keys (keys + lists) b)
+        (new : List Node) (a b : ℕ) (many : length new ≡ length nodes) (in_a : a < length nodes) (in_b : b < length nodes) (is_a : IsPlaceIn keys (keys + lists) a) (is_b : IsPlaceIn keys (keys + lists) b)
         (on_a : (node_at new a).after ≡ b) (on_else : (x : ℕ) → x ≢ a → (node_at new x).after ≡ (node_at nodes x).after)
         (back_b : (node_at new b).before ≡ a) (back_else : (x : ℕ) → x ≢ b → (node_at new x).before ≡ (node_at nodes x).before)
-        (numbers : (x : ℕ) → (node_at new x).number ≡ (node_at nodes x).number) (many : length new ≡ length nodes) where
+        (numbers : (x : ℕ) → (node_at new x).number ≡ (node_at nodes x).number) where
       apart_place : (j p : ℕ) → j ≢ code keys p → place_at keys j ≢ p
       apart_place j p apart e = apart (sym (code_back keys j) ∙ ap (code keys) e)
 
@@ -223,8 +230,8 @@ module _ (keys lists : ℕ) where
           in
           rw (same, after, before, many) refl
 
-      pub filled_linked : (capacity : ℕ) → a < length nodes → b < length nodes → AreFilled keys lists capacity nodes → AreFilled keys lists capacity new
-      filled_linked capacity in_a in_b filled = record {
+      pub filled_linked : (capacity : ℕ) → AreFilled keys lists capacity nodes → AreFilled keys lists capacity new
+      filled_linked capacity filled = record {
         on = λ p is_p.
             ⊎_elim
             (λ (same : p ≡ a). rw (same, on_a) is_b)
@@ -235,18 +242,17 @@ module _ (keys lists : ℕ) where
             (λ (same : p ≡ b). rw (same, back_b) is_a)
             (λ (apart : p ≢ b). rw (back_else p apart) (filled.back p is_p))
             (cases_eq p b);
-        near = λ p lt.
-            let old = filled.near p (omega (arith, lt, many)) in
-            rw many (
-              ⊎_elim
-                  (λ (same : p ≡ a). rw (same, on_a) in_b)
-                  (λ (apart : p ≢ a). rw (on_else p apart) old.0)
-                  (cases_eq p a),
-              ⊎_elim
-                  (λ (same : p ≡ b). rw (same, back_b) in_a)
-                  (λ (apart : p ≢ b). rw (back_else p apart) old.1)
-                  (cases_eq p b),
-            );
+        on_filled = λ p lt.
+            ⊎_elim
+            (λ (same : p ≡ a). rw (same, on_a, many) in_b)
+            (λ (apart : p ≢ a). rw (on_else p apart, many) (filled.on_filled p (rw many at lt)))
+            (cases_eq p a);
+        back_filled = λ p lt.
+            ⊎_elim
+            (λ (same : p ≡ b). rw (same, back_b, many) in_a)
+            (λ (apart : p ≢ b). rw (back_else p apart, many) (filled.back_filled p (rw many at lt)))
+            (cases_eq p b);
+        whole = rw many filled.whole;
         keys_reserved = filled.keys_reserved;
         lists_reserved = filled.lists_reserved;
         keys_fit = filled.keys_fit;

@@ -13,4 +13,5 @@ pub mod Places
 pub mod Rings
 pub mod Runs
 pub mod Seen
+pub mod Stored
 pub mod Walks

@@ -1,10 +1,9 @@
 -- What is told of lists as a key leaves one and comes into another.
-use Rattle.std.proofs.Common.{◌≡◌, ◌≢◌, ◌==◌, ℕ, zero, suc, ◌≤◌, ◌<◌, Bool, not, List, [], ◌∷◌, ◌++◌, Option, None, Some, IfSome, filter, length, get_or, set, slice_index, if◌then◌else◌}
-use Rattle.std.proofs.Common.{refl, sym, ap, ap₂, subst, ◌∙◌, arith, ltb, ⊎_elim, ne_eqb, eq-eqb, length-set, get_or-set_same, get_or-set_other}
+use Rattle.std.proofs.Common.{◌≡◌, ◌≢◌, ◌==◌, ℕ, ◌≤◌, ◌<◌, not, List, [], ◌∷◌, Option, None, Some, IfSome, length, get_or, set, slice_index, if◌then◌else◌, refl, sym, ap, ap₂, subst, ◌∙◌, arith, ⊎_elim, ne_eqb, eq-eqb, length-set, get_or-set_same, get_or-set_other}
 use Rattle.std.proofs.lemmas.Bool.{cases_eq, cases_lt}
 use Rattle.std.proofs.lemmas.List.{get_or_past}
 use Rattle.std.proofs.lemmas.List.Kept.{AllPairs-filter}
-use Rattle.linked_lists.specs.Linked.{AreInOrder, AreOwned, IsFree, Linked, is_below, list_of, moved, owner_of, times, with_number}
+use Rattle.linked_lists.specs.Linked.{AreInOrder, AreOwned, IsFree, Linked, list_of, moved, owner_of, times}
 use Rattle.linked_lists.specs.Moved.{IsEntered, IsLeft, IsMoved, with_key, without}
 use Rattle.linked_lists.proofs.Runs.{tally_other, tally_same}
 
@@ -13,17 +12,6 @@ use Rattle.linked_lists.proofs.Runs.{tally_other, tally_same}
 module _ (place : ℕ) where
   apart_first : (x : ℕ) (xs : List ℕ) → times place (x ∷ xs) ≡ 0 → x ≢ place
   apart_first x xs none same = absurd (omega (arith, none, tally_same x place same))
-
-  held_apart : (xs : List ℕ) (i d : ℕ) → times place xs ≡ 0 → i < length xs → get_or xs i d ≢ place
-  held_apart [] i d none within = absurd (omega (arith, within))
-  held_apart (x ∷ xs) zero d none within = apart_first x xs none
-  held_apart (x ∷ xs) (suc i) d none within = held_apart xs i d (omega (arith, none)) (omega (arith, within))
-
-  pub filter_apart : (f g : ℕ → Bool) → ((p : ℕ) → p ≢ place → f p ≡ g p) → (xs : List ℕ) → times place xs ≡ 0 → filter f xs ≡ filter g xs
-  filter_apart f g same [] none = refl
-  filter_apart f g same (x ∷ xs) none =
-      let rest : filter f xs ≡ filter g xs = filter_apart f g same xs (omega (arith, none)) in
-      ap₂ (λ (b : Bool) (ys : List ℕ). if b then x ∷ ys else ys) (same x (apart_first x xs none)) rest
 
   pub without_none : (xs : List ℕ) → times place xs ≡ 0 → without place xs ≡ xs
   without_none [] none = refl
@@ -46,7 +34,7 @@ list_moved all place o list places x within =
     (λ (apart : x ≢ list). rw (ne_eqb x list apart) (get_or-set_other all.lists list x places [] apart))
     (cases_eq x list)
 
-owner_moved : (all : Linked) (place o list : ℕ) (places : List ℕ) (q : ℕ) → place < length all.owners → owner_of (moved all place o list places) q ≡ if q == place then o else owner_of all q
+pub owner_moved : (all : Linked) (place o list : ℕ) (places : List ℕ) (q : ℕ) → place < length all.owners → owner_of (moved all place o list places) q ≡ if q == place then o else owner_of all q
 owner_moved all place o list places q within =
     rw (length-set all.lists list places)
     (⊎_elim
@@ -98,44 +86,24 @@ left_taken all place are some =
 
 -- ---- a place comes in
 
-module _ (old : Linked) (place list number : ℕ) (are : AreOwned old) (held : place < length old.owners) (free : IsFree old place) (within : list < length old.lists) where
-  abbrev numbered : List ℕ
-  numbered = set old.numbers place number
-
-  same_numbers : (q : ℕ) → q ≢ place → slice_index numbered q ≡ slice_index old.numbers q
-  same_numbers q apart = get_or-set_other old.numbers place q number 0 apart
-
-  none_there : (x : ℕ) → x < length old.lists → times place (list_of old x) ≡ 0
-  none_there x lt = none_in old place x are free.in_none lt
-
-  with_there : with_key numbered number place (list_of old list) ≡ with_key old.numbers number place (list_of old list)
-  with_there =
-      let below : (p : ℕ) → p ≢ place → is_below numbered number p ≡ is_below old.numbers number p = λ p apart. ap (λ n. ltb n number) (same_numbers p apart) in
-      let none = none_there list within in
-      ap₂ (λ (xs ys : List ℕ). xs ++ place ∷ ys)
-      (filter_apart place (is_below numbered number) (is_below old.numbers number) below (list_of old list) none)
-      (filter_apart place (λ p. not (is_below numbered number p)) (λ p. not (is_below old.numbers number p)) (λ p apart. ap not (below p apart)) (list_of old list) none)
-
-  entered : IsEntered old (moved (record old { numbers = numbered }) place list list (with_key numbered number place (list_of old list))) place list number
-  entered =
-      let s : Linked = record old { numbers = numbered } in
-      let places = with_key numbered number place (list_of old list) in
-      record {
-        keys = length-set old.numbers place number;
-        many = length-set old.lists list places;
-        listed = λ x lt.
-            list_moved s place list list places x lt
-            ∙ ⊎_elim
-            (λ (same : x ≡ list). rw (eq-eqb x list same) (with_there ∙ ap (λ n. with_key old.numbers number place (list_of old n)) (sym same)))
-            (λ (apart : x ≢ list). rw (ne_eqb x list apart) refl)
-            (cases_eq x list);
-        owners = λ q. owner_moved s place list list places q held;
-        numbers = same_numbers;
-        known = get_or-set_same old.numbers place number 0 free.there;
-      }
-
-  pub entered_between : IsEntered old (moved (with_number old place number) place list list (with_key old.numbers number place (list_of old list))) place list number
-  entered_between = subst (λ keys. IsEntered old (moved (with_number old place number) place list list keys) place list number) with_there entered
+pub entered :
+    (old : Linked) (place list number : ℕ) → place < length old.owners → IsFree old place
+    → IsEntered old (record (moved old place list list (with_key old.numbers number place (list_of old list))) { numbers = set old.numbers place number }) place list number
+entered old place list number held free =
+    let places = with_key old.numbers number place (list_of old list) in
+    record {
+      keys = length-set old.numbers place number;
+      many = length-set old.lists list places;
+      listed = λ x lt.
+          list_moved old place list list places x lt
+          ∙ ⊎_elim
+          (λ (same : x ≡ list). rw (eq-eqb x list same) (ap (λ n. with_key old.numbers number place (list_of old n)) (sym same)))
+          (λ (apart : x ≢ list). rw (ne_eqb x list apart) refl)
+          (cases_eq x list);
+      owners = λ q. owner_moved old place list list places q held;
+      numbers = λ q apart. get_or-set_other old.numbers place q number 0 apart;
+      known = get_or-set_same old.numbers place number 0 free.there;
+    }
 
 -- ---- and both
 

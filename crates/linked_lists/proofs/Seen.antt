@@ -6,7 +6,7 @@ use Rattle.std.proofs.lemmas.List.{get_or_past}
 use Rattle.linked_lists.specs.Kept.{AreKept, IsPlaceOf, after_in, before_in, linked_in, lists_in}
 use Rattle.linked_lists.specs.Linked.{AreOwned, Linked, IsOf, end_at, is_below, list_of, owner_of, place_after, times}
 use Rattle.linked_lists.specs.Nodes.{Arena, IsPlace}
-use Rattle.linked_lists.proofs.Ends.{first_none, first_some, not_alone, next_none, next_some}
+use Rattle.linked_lists.proofs.Ends.{first_none, first_some, next_none, next_some}
 use Rattle.linked_lists.proofs.Rings.{after_of, before_of}
 use Rattle.linked_lists.proofs.Runs.{tally_most, tally_other, tally_same}
 use Rattle.linked_lists.proofs.Walks.{length-lists_from}
@@ -103,14 +103,6 @@ module _ (none : ℕ) (arena : Arena) (owners lens : List ℕ) (kept : AreKept n
 
   pub some_first : (s : ℕ) → s < length lists → after_in arena (keys + s) < keys → Some (after_in arena (keys + s)) ≡ slice_get (list_of all s) 0
   some_first s within is = sym (first_some (after_in arena) (before_in arena) (keys + s) (keys + s) (list_of all s) (kept.rings.ring s within) (λ e. absurd (omega (arith, is, e))))
-
-  -- a key in a list doesn't follow itself
-  pub key_not_alone : (s a : ℕ) → s < length lists → owner_of all a ≡ s → after_in arena a ≢ a
-  key_not_alone s a within is =
-      let key : a < keys = owned_in a (omega (arith, is, within)) in
-      not_alone (after_in arena) (before_in arena) (keys + s) (keys + s) a (list_of all s) (kept.rings.ring s within)
-      (omega (arith, kept.rings.once s a within, tally_same (owner_of all a) s is, tally_other (keys + s) a (λ e. absurd (omega (arith, e, key)))))
-      (λ e. absurd (omega (arith, e, key)))
 
   pub there : (p : ℕ) → owner_of all p < length lists → 0 < times p (list_of all (owner_of all p))
   there p some = omega (arith, kept.rings.once (owner_of all p) p some, tally_same (owner_of all p) (owner_of all p) refl)

@@ -28,9 +28,7 @@ pub length_at : (after : ℕ → ℕ) (k : ℕ) (lens : List ℕ) (s : ℕ) → 
 length_at after k lens s within = ap length (lists_from_at after k lens s within) ∙ length-walk after (get_or lens s 0) (k + s)
 
 -- rings of these lengths are what is shown
-pub shown :
-    (after before : ℕ → ℕ) (k : ℕ) (lists : List (List ℕ)) (lens : List ℕ) → ((s : ℕ) → s < length lists → Run after before (k + s) (get_or lists s []) (k + s))
-    → length lists ≡ length lens → ((s : ℕ) → s < length lens → length (get_or lists s []) ≡ get_or lens s 0) → lists_from after k lens ≡ lists
+pub shown : (after before : ℕ → ℕ) (k : ℕ) (lists : List (List ℕ)) (lens : List ℕ) → ((s : ℕ) → s < length lists → Run after before (k + s) (get_or lists s []) (k + s)) → length lists ≡ length lens → ((s : ℕ) → s < length lens → length (get_or lists s []) ≡ get_or lens s 0) → lists_from after k lens ≡ lists
 shown after before k lists lens rings long lengths =
     ext_get_or [] (lists_from after k lens) lists (length-lists_from after k lens ∙ sym long)
     (λ s lt.

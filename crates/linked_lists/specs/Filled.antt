@@ -5,11 +5,11 @@ use Rattle.linked_lists.specs.Nodes.{each}
 -- all the numbers, the one that those have that were never set, and how many are filled
 pub record Padded : Type 0 where
   pub fill : ℕ
+  pub filled : ℕ
   pub items : List ℕ
-  pub reached : ℕ
 
 abbrev pub padded : ℕ → ℕ → List ℕ → Padded
-padded room fill items = record { fill = fill; items = each room (λ i. slice_index_or items i fill); reached = length items }
+padded room fill items = record { fill = fill; filled = length items; items = each room (λ i. slice_index_or items i fill) }
 
 -- there is memory for all
 pub record IsReserved (room capacity : ℕ) (items : List ℕ) : Type 0 where

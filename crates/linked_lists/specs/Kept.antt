@@ -1,5 +1,6 @@
 -- What linked lists keep between calls, and the lists that they stand for.
-use Rattle.std.specs.Prelude.{◌≡◌, ℕ, zero, suc, ◌+◌, ◌<◌, ◌^◌, List, [], ◌∷◌, length, slice_index}
+use Rattle.std.specs.Prelude.{◌≡◌, ℕ, zero, suc, ◌+◌, ◌<◌, ◌^◌, List, [], ◌∷◌, length, min, slice_index, slice_index_or}
+use Rattle.linked_lists.specs.Filled.{Padded}
 use Rattle.linked_lists.specs.Linked.{Linked, owner_of, times}
 use Rattle.linked_lists.specs.Nodes.{Arena, IsPlaceIn, code}
 use Rattle.linked_lists.specs.Rings.{AreRings}
@@ -49,3 +50,15 @@ pub record AreKept (none : ℕ) (arena : Arena) (owners lens : List ℕ) : Type 
   pub unlisted : none ≡ length lens
   pub keys_fit : length arena.numbers < 2 ^ 32
   pub lists_fit : length lens < 2 ^ 32
+
+-- each key that is in a list has its turn among these, and so has its list
+pub record AreReached (turns none : ℕ) (owners : List ℕ) : Type 0 where
+  pub key : (key : ℕ) → slice_index_or owners key none < none → key < turns
+  pub list : (key : ℕ) → slice_index_or owners key none < none → slice_index_or owners key none < turns
+
+-- all are filled by the same turns, as far as there are keys and lists
+pub record AreStored (nodes : Arena) (owners lens : Padded) : Type 0 where
+  pub kept : AreKept owners.fill nodes owners.items lens.items
+  pub owners_filled : owners.filled ≡ min (length owners.items) nodes.turns
+  pub lens_filled : lens.filled ≡ min (length lens.items) nodes.turns
+  pub reached : AreReached nodes.turns owners.fill owners.items

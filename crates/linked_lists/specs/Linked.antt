@@ -52,10 +52,6 @@ abbrev pub put_behind : ℕ → ℕ → ℕ → List ℕ → List ℕ
 put_behind at place front [] = place ∷ []
 put_behind at place front (x ∷ xs) = if front == at then place ∷ x ∷ xs else x ∷ put_behind at place x xs
 
--- the key gets this number
-abbrev pub with_number : Linked → ℕ → ℕ → Linked
-with_number all key number = record all { numbers = slice_set all.numbers key number }
-
 -- the place gets this list, and the list these places
 abbrev pub moved : Linked → ℕ → ℕ → ℕ → List ℕ → Linked
 moved all place owner list places = record all { owners = slice_set all.owners place owner; lists = slice_set all.lists list places }

@@ -3,13 +3,13 @@ use Rattle.std.specs.Prelude.{◌≡◌, ℕ, ◌+◌, ◌-◌, ◌*◌, ◌/◌
 use Rattle.std.specs.List.{range_with_len}
 use Rattle.linked_lists.specs.declared.nodes.Node.{Node}
 
--- the numbers of the keys, and what follows each key or end, and what stands before it; and how many places are filled.
--- The ends of lists count on from the keys
+-- the numbers of the keys, and what follows each key or end, and what stands before it. The ends of lists count on from
+-- the keys. A turn fills two places, those of a key and of a list's end
 pub record Arena : Type 0 where
   pub numbers : List ℕ
   pub after : List ℕ
   pub before : List ℕ
-  pub reached : ℕ
+  pub turns : ℕ
 
 -- the key at a place, or the end
 abbrev pub code : ℕ → ℕ → ℕ
@@ -31,15 +31,15 @@ IsPlace arena place = IsPlaceIn (length arena.numbers) (length arena.after) plac
 abbrev pub here : Arena → ℕ → ℕ
 here arena place = code (length arena.numbers) place
 
--- a node that was read: a key's has its number, and links lead to places
+-- a node that was read: a key's has its number, and links lead to places that are filled
 pub record IsRead (arena : Arena) (place : ℕ) (node : Node) : Type 0 where
   pub number : here arena place < length arena.numbers → node.number ≡ slice_index arena.numbers (here arena place)
   pub after : here arena node.after ≡ slice_index arena.after (here arena place)
   pub before : here arena node.before ≡ slice_index arena.before (here arena place)
   pub on : IsPlace arena node.after
   pub back : IsPlace arena node.before
-  pub near : place < arena.reached → (node.after < arena.reached) × (node.before < arena.reached)
-  pub alone : arena.reached ≤ place → node.after ≡ place
+  pub on_filled : node.after < 2 * arena.turns
+  pub back_filled : node.before < 2 * arena.turns
 
 -- the second follows the first
 abbrev pub linked : ℕ → ℕ → Arena → Arena
@@ -63,14 +63,16 @@ arena_of keys lists nodes = record {
   numbers = each keys (λ key. (node_at nodes (2 * key)).number);
   after = each (keys + lists) (λ c. code keys (node_at nodes (place_at keys c)).after);
   before = each (keys + lists) (λ c. code keys (node_at nodes (place_at keys c)).before);
-  reached = length nodes;
+  turns = length nodes / 2;
 }
 
--- places lead to places, filled ones to filled ones, and there is memory for all
+-- places lead to places, and filled ones to filled ones, all turns are whole, and there is memory for all
 pub record AreFilled (keys lists capacity : ℕ) (nodes : List Node) : Type 0 where
   pub on : (place : ℕ) → IsPlaceIn keys (keys + lists) place → IsPlaceIn keys (keys + lists) (node_at nodes place).after
   pub back : (place : ℕ) → IsPlaceIn keys (keys + lists) place → IsPlaceIn keys (keys + lists) (node_at nodes place).before
-  pub near : (place : ℕ) → place < length nodes → ((node_at nodes place).after < length nodes) × ((node_at nodes place).before < length nodes)
+  pub on_filled : (place : ℕ) → place < length nodes → (node_at nodes place).after < length nodes
+  pub back_filled : (place : ℕ) → place < length nodes → (node_at nodes place).before < length nodes
+  pub whole : length nodes ≡ 2 * (length nodes / 2)
   pub keys_reserved : 2 * keys ≤ capacity
   pub lists_reserved : 2 * lists ≤ capacity
   pub keys_fit : keys ≤ 2 ^ 31

@@ -1,6 +1,6 @@
-//! Numbers that are filled as far as they were set, seen as all of them.
+//! Numbers that are filled as far as they are used, seen as all of them.
 
-ghost use Rattle.std.specs.Prelude.{◌≡◌, ◌≢◌, ℕ, ◌+◌, ◌<◌, IfOk, length, max, replicate, slice_index, slice_index_or, slice_set, vec_capacity};
+ghost use Rattle.std.specs.Prelude.{◌≡◌, ◌+◌, ◌≤◌, ◌<◌, IfNone, IfOk, IfSome, length, max, min, replicate, slice_index, slice_index_or, slice_set};
 
 use std::alloc::{AllocError, Global};
 use std::marker::Model;
@@ -26,25 +26,12 @@ impl Model for Filled {
     ghost invariant = { λ a. IsReserved a.room (vec_capacity a.items) a.items.items };
 }
 
-// Appends a number to a list until it has this place. There is memory for it, and what is there stays.
-#[inline(never)]
-fn fill_to(items: &mut Vec<u32>, place: u32, number: u32)
-    requires { place < vec_capacity items.old }
-    ensures many { length items.new.items ≡ max (length items.old.items) (place + 1) }
-    ensures same { (k : ℕ) → slice_index_or items.new.items k number ≡ slice_index_or items.old.items k number }
-    ensures capacity { vec_capacity items.new ≡ vec_capacity items.old }
-{
-    while items.len() <= place as usize {
-        items.push_reserved(number);
-    }
-}
-
 impl Filled {
     /// `room` numbers that are all `fill`, with the memory for them, none of which is filled.
     ///
     /// An `AllocError` comes where that memory can't be had.
     pub fn open(alloc: Global, room: u32, fill: u32) -> Result<Filled, AllocError>
-        ensures { IfOk result (λ filled. filled ≡ record { fill = fill; items = replicate room fill; reached = 0 }) }
+        ensures { IfOk result (λ filled. filled ≡ record { fill = fill; filled = 0; items = replicate room fill }) }
     {
         let items = Vec::with_capacity(alloc, room as usize)?;
         Ok(Filled { room, fill, items })
@@ -58,34 +45,24 @@ impl Filled {
         self.fill
     }
 
-    /// The number at an index, or what all are at first where there is no such index.
+    /// The number at an index, or None where it isn't filled, and so is as all are at first, or there is none.
     #[inline(always)]
-    pub fn get(&self, index: u32) -> u32
-        ensures value { result ≡ slice_index_or self.now.items index self.now.fill }
-        ensures reached { result ≢ self.now.fill → index < self.now.reached }
+    pub fn get(&self, index: u32) -> Option<u32>
+        ensures number { IfSome result (λ number. number ≡ slice_index_or self.now.items index self.now.fill) }
+        ensures past { IfNone result (self.now.filled ≤ index) }
+        ensures fill { IfNone result (slice_index_or self.now.items index self.now.fill ≡ self.now.fill) }
     {
         if (index as usize) < self.items.len() {
-            self.items[index as usize]
+            Some(self.items[index as usize])
         } else {
-            self.fill
-        }
-    }
-
-    /// Fills all up to this index.
-    #[inline(always)]
-    pub fn reach(&mut self, index: u32)
-        requires { index < length self.old.items }
-        ensures { self.new ≡ record self.old { reached = max self.old.reached (index + 1) } }
-    {
-        if self.items.len() <= index as usize {
-            fill_to(&mut self.items, index, self.fill);
+            None
         }
     }
 
     /// The number at an index that is filled.
     #[inline(always)]
-    pub fn at(&self, index: u32) -> u32
-        requires { index < self.now.reached }
+    pub fn read(&self, index: u32) -> u32
+        requires { index < self.now.filled }
         ensures { result ≡ slice_index self.now.items index }
     {
         self.items[index as usize]
@@ -94,9 +71,19 @@ impl Filled {
     /// Sets the number at an index that is filled.
     #[inline(always)]
     pub fn set(&mut self, index: u32, number: u32)
-        requires { index < self.old.reached }
+        requires { index < self.old.filled }
         ensures { self.new ≡ record self.old { items = slice_set self.old.items index number } }
     {
         self.items[index as usize] = number;
+    }
+
+    /// Fills the numbers as far as this index, or all where there is no such index.
+    #[inline(always)]
+    pub fn reach(&mut self, index: u32)
+        ensures { self.new ≡ record self.old { filled = max self.old.filled (min (length self.old.items) (index + 1)) } }
+    {
+        while self.items.len() <= index as usize && self.items.len() < self.room as usize {
+            self.items.push_reserved(self.fill);
+        }
     }
 }

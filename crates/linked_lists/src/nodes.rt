@@ -1,8 +1,8 @@
 //! Nodes in one array, each with a number and two links. A key and the end of a list have a node each: that of key k
-//! stands at the place 2k, and that of list l's end at 2l + 1. The array is filled as far as nodes are written, and
-//! whoever reads one that isn't there yet reads one that follows itself, with the number 0.
+//! stands at the place 2k, and that of list l's end at 2l + 1. The array is filled by turns: turn n brings the places of
+//! key n and of list n's end, and each follows itself, with the number 0. Only what is filled is read and linked.
 
-ghost use Rattle.std.specs.Prelude.{◌≡◌, ℕ, ◌+◌, ◌*◌, ◌≤◌, ◌<◌, ◌^◌, IfNone, IfOk, IfSome, length, max, replicate, slice_set, vec_capacity};
+ghost use Rattle.std.specs.Prelude.{◌≡◌, ℕ, ◌+◌, ◌-◌, ◌*◌, ◌≤◌, ◌<◌, ◌^◌, IfNone, IfOk, IfSome, length, max, nat_lt, replicate, slice_set, vec_capacity};
 ghost use Rattle.std.specs.List.{range_with_len};
 ghost use Rattle.linked_lists.specs.Nodes.{IsPlace, IsRead, here, linked, node_at};
 
@@ -40,8 +40,8 @@ impl Model for Nodes {
 }
 
 // Adds nodes that follow themselves until there is one at this place.
-#[inline(never)]
-fn fill(nodes: &mut Vec<Node>, place: u32)
+#[inline(always)]
+fn reach(nodes: &mut Vec<Node>, place: u32)
     requires { place < vec_capacity nodes.old }
     ensures many { length nodes.new.items ≡ max (length nodes.old.items) (place + 1) }
     ensures same { (k : ℕ) → node_at nodes.new.items k ≡ node_at nodes.old.items k }
@@ -66,7 +66,7 @@ impl Nodes {
           numbers = replicate keys 0;
           after = range_with_len 0 (keys + lists);
           before = range_with_len 0 (keys + lists);
-          reached = 0;
+          turns = 0;
         }) }
     {
         if lists.max(keys) > 1 << 31 {
@@ -99,17 +99,6 @@ impl Nodes {
         2 * list + 1
     }
 
-    /// Fills all places up to this one.
-    #[inline(always)]
-    pub fn reach(&mut self, place: u32)
-        requires { IsPlace self.old place }
-        ensures { self.new ≡ record self.old { reached = max self.old.reached (place + 1) } }
-    {
-        if self.nodes.len() <= place as usize {
-            fill(&mut self.nodes, place);
-        }
-    }
-
     /// The key at a place, or None at an end.
     #[inline(always)]
     pub fn key_at(&self, place: u32) -> Option<u32>
@@ -125,45 +114,55 @@ impl Nodes {
         }
     }
 
-    /// The node at a place. That is one step, and no other call reads a node.
+    /// Whether a place is filled.
+    #[inline(always)]
+    pub fn is_filled(&self, place: u32) -> bool
+        ensures { result ≡ nat_lt place (2 * self.now.turns) }
+    {
+        (place as usize) < self.nodes.len()
+    }
+
+    /// The node at a place that is filled. That is one step, and no other call reads a node.
     #[inline(always)]
     pub fn read(&self, place: u32, steps: &mut Steps) -> Node
-        requires { IsPlace self.now place }
+        requires place { IsPlace self.now place }
+        requires filled { place < 2 * self.now.turns }
         ensures node { IsRead self.now place result }
         ensures step { steps.new ≡ steps.old + 1 }
     {
         steps.tick();
-        if (place as usize) < self.nodes.len() {
-            self.nodes[place as usize]
-        } else {
-            Node {
-                number: 0,
-                before: place,
-                after: place,
-            }
-        }
+        self.nodes[place as usize]
     }
 
-    /// Makes the second place follow the first. No other call changes a link.
+    /// Makes the second place follow the first, where both are filled. No other call changes a link.
     #[inline(always)]
     pub fn link(&mut self, before: u32, after: u32)
         requires first { IsPlace self.old before }
         requires second { IsPlace self.old after }
-        requires first_reached { before < self.old.reached }
-        requires second_reached { after < self.old.reached }
+        requires first_filled { before < 2 * self.old.turns }
+        requires second_filled { after < 2 * self.old.turns }
         ensures { self.new ≡ linked (here self.old before) (here self.old after) self.old }
     {
         self.nodes[before as usize].after = after;
         self.nodes[after as usize].before = before;
     }
 
-    /// Gives a key this number.
+    /// Gives a key this number, where its place is filled.
     #[inline(always)]
     pub fn set_number(&mut self, key: u32, number: u64)
         requires key { key < length self.old.numbers }
-        requires reached { 2 * key < self.old.reached }
+        requires filled { key < self.old.turns }
         ensures { self.new ≡ record self.old { numbers = slice_set self.old.numbers key number } }
     {
         self.nodes[2 * key as usize].number = number;
+    }
+
+    /// Fills the places of this turn and of all before it.
+    #[inline(always)]
+    pub fn reach(&mut self, turn: u32)
+        requires { turn < max (length self.old.numbers) (length self.old.after - length self.old.numbers) }
+        ensures { self.new ≡ record self.old { turns = max self.old.turns (turn + 1) } }
+    {
+        reach(&mut self.nodes, 2 * turn + 1);
     }
 }

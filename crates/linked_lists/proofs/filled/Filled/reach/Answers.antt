@@ -1,23 +1,26 @@
-use Rattle.std.proofs.Common.{◌≡◌, ◌+◌, ◌<◌, length, max, refl, arith}
-use Rattle.linked_lists.proofs.Each.{length-each, padded_reached}
+use Rattle.std.proofs.Common.{◌≡◌, ◌+◌, get_or, length, max, min, arith}
+use Rattle.linked_lists.specs.Nodes.{each}
+use Rattle.linked_lists.proofs.Each.{length-each, padded_more}
 use Rattle.linked_lists.proofs.filled.Filled.reach.Goals as goal
 
-pub fill_to-requires : goal.fill_to-requires
-fill_to-requires c = omega (arith, rw (← c.self.view_is) at c.requires, length-each c.self.inside.room, c.self.invariant.reserved)
+pub returns-else-len-self : goal.returns-else-len-self
+returns-else-len-self c =
+    let kept = c.loop-self.invariant in
+    let room = c.self.inside.room in
+    let fill = c.self.inside.fill in
+    let old = c.self.inside.items.items in
+    let new = c.loop-self.self-inside.items.items in
+    let long = length-each room (λ k. get_or old k fill) in
+    let many : length new ≡ max (length old) (min (length (each room (λ k. get_or old k fill))) (c.args.index + 1)) = omega (arith, kept.within, kept.least, kept.room, long, c.loop-self-test.true, c.if-len-self.false, c.len.ensures, c.len-in-loop-self.ensures, c.self.invariant.within) in
+    rw (← c.self.view_is, kept.room, kept.fill) (padded_more room fill _ old new many (rw kept.fill at kept.same))
 
-pub invariant_of-self : goal.invariant_of-self
-invariant_of-self c =
-    let within : c.args.index < c.self.inside.room = omega (arith, rw (← c.self.view_is) at c.requires, length-each c.self.inside.room) in
-    record {
-      within = omega (arith, c.fill_to.ensures.many, c.self.invariant.within, within);
-      reserved = omega (arith, c.fill_to.ensures.capacity, c.self.invariant.reserved);
-    }
-
-pub returns-then-len-index : goal.returns-then-len-index
-returns-then-len-index c =
-    rw (← c.self.view_is, ← c.fill_to.ensures.many) (padded_reached c.self.inside.room c.self.inside.fill c.self.inside.items.items c.fill_to.new.items.items c.fill_to.ensures.same)
-
-pub returns-else-len-index : goal.returns-else-len-index
-returns-else-len-index c =
-    let enough : max (length c.self.inside.items.items) (c.args.index + 1) ≡ length c.self.inside.items.items = omega (arith, c.if-len-index.false, c.len.ensures) in
-    rw (← c.self.view_is, enough) refl
+pub returns-after-loop-self : goal.returns-after-loop-self
+returns-after-loop-self c =
+    let kept = c.loop-self.invariant in
+    let room = c.self.inside.room in
+    let fill = c.self.inside.fill in
+    let old = c.self.inside.items.items in
+    let new = c.loop-self.self-inside.items.items in
+    let long = length-each room (λ k. get_or old k fill) in
+    let many : length new ≡ max (length old) (min (length (each room (λ k. get_or old k fill))) (c.args.index + 1)) = omega (arith, kept.within, kept.least, kept.room, long, c.loop-self-test.false, c.len.ensures, c.self.invariant.within) in
+    rw (← c.self.view_is, kept.room, kept.fill) (padded_more room fill _ old new many (rw kept.fill at kept.same))

@@ -12,32 +12,32 @@ pub invariant_of-self : goal.invariant_of-self
 invariant_of-self c =
     let k = c.self.inside.keys in
     let l = c.self.inside.lists in
-    let old = c.self.inside.nodes.items in
+    let nodes = c.self.inside.nodes.items in
     let p = 2 * c.args.key in
-    let within : c.args.key < k = omega (arith, rw (← c.self.view_is) at c.requires.key, keys_many k l old) in
-    let in_p : p < length old = rw (← c.self.view_is) at c.requires.reached in
-    let is : c.index_mut.result.now ≡ node_at old p = get_or_read old p _ in_p c.index_mut.ensures.value (alone p) in
+    let within : c.args.key < k = omega (arith, rw (← c.self.view_is) at c.requires.key, keys_many k l nodes) in
+    let in_p : p < length nodes = omega (arith, rw (← c.self.view_is) at c.requires.filled, c.self.invariant.whole) in
+    let is : c.index_mut.result.now ≡ node_at nodes p = get_or_read nodes p _ in_p c.index_mut.ensures.value (alone p) in
     let node : Node = record c.index_mut.result.now { number = c.args.number } in
-    let new = set old p node in
-    let same : (x : ℕ) → x ≢ p → (node_at new x).number ≡ (node_at old x).number = λ x apart. ap (λ (n : Node). n.number) (node_set_else old p x node apart) in
-    let on : (x : ℕ) → (node_at new x).after ≡ (node_at old x).after = λ x. field_kept (λ n. n.after) old p node in_p (ap (λ (n : Node). n.after) is) x in
-    let back : (x : ℕ) → (node_at new x).before ≡ (node_at old x).before = λ x. field_kept (λ n. n.before) old p node in_p (ap (λ (n : Node). n.before) is) x in
-    let known : (node_at new p).number ≡ c.args.number = ap (λ (n : Node). n.number) (node_set old p node in_p) in
-    filled_numbered k l old new c.args.key c.args.number within known same on back (length-set old p node) _ c.self.invariant
+    let new = set nodes p node in
+    let same : (x : ℕ) → x ≢ p → (node_at new x).number ≡ (node_at nodes x).number = λ x apart. ap (λ (n : Node). n.number) (node_set_else nodes p x node apart) in
+    let on : (x : ℕ) → (node_at new x).after ≡ (node_at nodes x).after = λ x. field_kept (λ n. n.after) nodes p node in_p (ap (λ (n : Node). n.after) is) x in
+    let back : (x : ℕ) → (node_at new x).before ≡ (node_at nodes x).before = λ x. field_kept (λ n. n.before) nodes p node in_p (ap (λ (n : Node). n.before) is) x in
+    let known : (node_at new p).number ≡ c.args.number = ap (λ (n : Node). n.number) (node_set nodes p node in_p) in
+    filled_numbered k l nodes new c.args.key c.args.number (length-set nodes p node) within known same on back _ c.self.invariant
 
 pub returns : goal.returns
 returns c =
     let k = c.self.inside.keys in
     let l = c.self.inside.lists in
-    let old = c.self.inside.nodes.items in
+    let nodes = c.self.inside.nodes.items in
     let p = 2 * c.args.key in
-    let within : c.args.key < k = omega (arith, rw (← c.self.view_is) at c.requires.key, keys_many k l old) in
-    let in_p : p < length old = rw (← c.self.view_is) at c.requires.reached in
-    let is : c.index_mut.result.now ≡ node_at old p = get_or_read old p _ in_p c.index_mut.ensures.value (alone p) in
+    let within : c.args.key < k = omega (arith, rw (← c.self.view_is) at c.requires.key, keys_many k l nodes) in
+    let in_p : p < length nodes = omega (arith, rw (← c.self.view_is) at c.requires.filled, c.self.invariant.whole) in
+    let is : c.index_mut.result.now ≡ node_at nodes p = get_or_read nodes p _ in_p c.index_mut.ensures.value (alone p) in
     let node : Node = record c.index_mut.result.now { number = c.args.number } in
-    let new = set old p node in
-    let same : (x : ℕ) → x ≢ p → (node_at new x).number ≡ (node_at old x).number = λ x apart. ap (λ (n : Node). n.number) (node_set_else old p x node apart) in
-    let on : (x : ℕ) → (node_at new x).after ≡ (node_at old x).after = λ x. field_kept (λ n. n.after) old p node in_p (ap (λ (n : Node). n.after) is) x in
-    let back : (x : ℕ) → (node_at new x).before ≡ (node_at old x).before = λ x. field_kept (λ n. n.before) old p node in_p (ap (λ (n : Node). n.before) is) x in
-    let known : (node_at new p).number ≡ c.args.number = ap (λ (n : Node). n.number) (node_set old p node in_p) in
-    rw (← c.self.view_is) (shows_numbered k l old new c.args.key c.args.number within known same on back (length-set old p node))
+    let new = set nodes p node in
+    let same : (x : ℕ) → x ≢ p → (node_at new x).number ≡ (node_at nodes x).number = λ x apart. ap (λ (n : Node). n.number) (node_set_else nodes p x node apart) in
+    let on : (x : ℕ) → (node_at new x).after ≡ (node_at nodes x).after = λ x. field_kept (λ n. n.after) nodes p node in_p (ap (λ (n : Node). n.after) is) x in
+    let back : (x : ℕ) → (node_at new x).before ≡ (node_at nodes x).before = λ x. field_kept (λ n. n.before) nodes p node in_p (ap (λ (n : Node). n.before) is) x in
+    let known : (node_at new p).number ≡ c.args.number = ap (λ (n : Node). n.number) (node_set nodes p node in_p) in
+    rw (← c.self.view_is) (shows_numbered k l nodes new c.args.key c.args.number (length-set nodes p node) within known same on back)

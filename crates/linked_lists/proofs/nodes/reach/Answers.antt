@@ -1,6 +1,6 @@
 use Rattle.std.proofs.Common.{◌≡◌, ◌∙◌, length, arith}
 use Rattle.linked_lists.proofs.Filling.{same_pushed}
-use Rattle.linked_lists.proofs.nodes.fill.Goals as goal
+use Rattle.linked_lists.proofs.nodes.reach.Goals as goal
 
 pub loop-nodes-preserved : goal.loop-nodes-preserved
 loop-nodes-preserved c =

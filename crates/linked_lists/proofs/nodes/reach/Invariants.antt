@@ -1,6 +1,6 @@
 use Rattle.std.proofs.Common.{◌≡◌, ◌+◌, ◌-◌, ℕ, ◌≤◌, length, max, vec_capacity}
 use Rattle.linked_lists.specs.Nodes.{node_at}
-use Rattle.linked_lists.proofs.nodes.fill.Given as goal
+use Rattle.linked_lists.proofs.nodes.reach.Given as goal
 
 abbrev pub invariant-loop-nodes : goal.invariant-loop-nodes
 invariant-loop-nodes l = record {
