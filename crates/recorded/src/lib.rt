@@ -26,7 +26,7 @@ ghost use Rattle.tp_model.specs.History.{IsLegal};
 ghost use Rattle.tp_model.specs.Laws.{KeepsLaws};
 ghost use Rattle.tp_model.specs.Over.{row_of};
 ghost use Rattle.recorded.specs.declared.OpenFault.TheVariants.{NoMemory, TooSmall};
-ghost use Rattle.recorded.specs.ProgramLimits.{limits_with};
+ghost use Rattle.recorded.specs.ProgramLimits.{program_limits};
 ghost use Rattle.recorded.specs.Recordings.{is_over_behind, left_behind, outcome_behind, recorded, room_of, IsFirstOf, Recording};
 
 use std::alloc::{AllocError, Global};
@@ -158,12 +158,15 @@ pub trait Recorded: Drop {
         ensures { result ≡ (recording self.now).capacity };
 }
 
+/// How many objects the program's machine has at most.
+pub const OBJECT_LIMIT: u32 = 65_535;
+
 /// The limits of the program's machine, with so many clients and workers.
 pub fn program_limits(clients: u32, workers: u32) -> Limits
     requires clients_most { clients ≤ 65535 }
     requires workers_least { 1 ≤ workers }
     requires workers_most { workers ≤ 65535 }
-    ensures value { result ≡ limits_with clients workers }
+    ensures value { result ≡ program_limits clients workers }
     ensures in_range { AreLimitsInRange result }
 {
     Limits {
@@ -171,7 +174,7 @@ pub fn program_limits(clients: u32, workers: u32) -> Limits
         workers,
         pools: 64,
         groups: 255,
-        objects: 4_095,
+        objects: OBJECT_LIMIT,
         kernels: 1_024,
         slots: 8_192,
     }

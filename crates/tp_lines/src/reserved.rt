@@ -1,6 +1,6 @@
 //! Lines of entries for which memory was taken beforehand.
 
-ghost use Rattle.std.specs.Prelude.{◌≡◌, ◌+◌, ◌≤◌, ◌++◌, ◌∷◌, [], length, min, take, vec_capacity, IfOk};
+ghost use Rattle.std.specs.Prelude.{◌≡◌, ◌+◌, ◌≤◌, ◌++◌, ◌∷◌, [], decimal, length, min, take, vec_capacity, IfOk};
 ghost use Rattle.tp_lines.specs.Answers.{line_of_entry};
 
 use crate::line;
@@ -12,7 +12,7 @@ use tp_base::calls::Call;
 use tp_base::ids::Who;
 
 /// As much as a line needs.
-const ROOM: usize = 512;
+const ROOM: usize = 544;
 
 /// How many bytes are made ready at once for the lines to come.
 const PAGE: usize = 1_024;
@@ -32,7 +32,7 @@ impl Model for ReservedLines {
 
     ghost Value = { Reserved };
 
-    ghost view = { λ lines. record { text = take lines.end lines.bytes.items; room = (vec_capacity lines.bytes - lines.end) / 512 } };
+    ghost view = { λ lines. record { text = take lines.end lines.bytes.items; room = (vec_capacity lines.bytes - lines.end) / 544 } };
 
     ghost invariant = { λ lines. lines.end ≤ length lines.bytes.items };
 }
@@ -49,17 +49,19 @@ impl ReservedLines {
         Ok(ReservedLines { bytes, end })
     }
 
-    /// Prints the line of an entry.
+    /// Prints a moment, a space, and the line of an entry.
     #[inline(never)]
-    pub fn entry(&mut self, who: Who, call: &Call, answer: &Answer)
+    pub fn entry(&mut self, moment: u64, who: Who, call: &Call, answer: &Answer)
         requires { 1 ≤ self.old.room }
-        ensures text { self.new.text ≡ self.old.text ++ (line_of_entry (record { who = who; call = call.now; answer = answer.now }) ++ 10 ∷ []) }
+        ensures text { self.new.text ≡ self.old.text ++ (decimal moment ++ (32 ∷ line_of_entry (record { who = who; call = call.now; answer = answer.now }) ++ 10 ∷ [])) }
         ensures room { self.old.room ≤ self.new.room + 1 }
     {
         if self.bytes.len() - self.end < ROOM {
             make_ready(&mut self.bytes);
         }
-        let end = put_entry(who, call, answer, &mut self.bytes, self.end);
+        let digits = line::digits(moment, &mut self.bytes, self.end);
+        let start = line::byte(b' ', &mut self.bytes, digits);
+        let end = put_entry(who, call, answer, &mut self.bytes, start);
         self.end = line::byte(b'\n', &mut self.bytes, end);
     }
 

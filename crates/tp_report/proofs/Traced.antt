@@ -6,7 +6,7 @@ use Rattle.std.proofs.lemmas.List.Elements.{All-nil, All-push, All-head, All-tai
 use Rattle.std.proofs.Math.Seq.{drop-append_seam}
 use Rattle.line_grammar.specs.Language.{IsReadTo as IsReadAs, IsStuck}
 use Rattle.line_grammar.specs.Traces.{trace_text, IsAhead, IsTraceFault}
-use Rattle.recorded.specs.ProgramLimits.{limits_with}
+use Rattle.recorded.specs.ProgramLimits.{program_limits}
 use Rattle.recorded.specs.Recordings.{Recording, IsFirstOf, outcomes_behind}
 use Rattle.tp_base.specs.declared.answers.Outcome.{Outcome}
 use Rattle.tp_base.specs.declared.calls.Call.{Call}
@@ -117,10 +117,10 @@ number_most : (who : Who) → IsWhoInRange who → client_number who ≤ 16
 number_most (Client number) h = h.1
 number_most (Worker number) h = omega arith
 
-pub played_none : (machine : MachineSize) (clients : ℕ) (bytes : List ℕ) (book : Recording) (text : List ℕ) → book.limits ≡ limits_with clients machine.workers → book.capacity ≡ machine.events → book.history ≡ [] → text ≡ []
+pub played_none : (machine : MachineSize) (clients : ℕ) (bytes : List ℕ) (book : Recording) (text : List ℕ) → book.limits ≡ program_limits clients machine.workers → book.capacity ≡ machine.events → book.history ≡ [] → text ≡ []
     → IsPlayedTo machine clients bytes book text 0 0 bytes
 played_none machine clients bytes book text limits capacity empty none =
-    let limits_are = limits_with clients machine.workers in
+    let limits_are = program_limits clients machine.workers in
     let opened : book ≡ record { limits = limits_are; capacity = machine.events; history = [] }
     = ap₂ (λ l n. record book { limits = l; capacity = n }) limits capacity ∙ ap (λ h. record { limits = limits_are; capacity = machine.events; history = h }) empty in
     record {
@@ -153,7 +153,7 @@ module _ (machine : MachineSize) (clients : ℕ) (bytes : List ℕ) (book : Reco
         ∙ append_assoc text (text_of_outcome outcome ++ 10 ∷ []) behind
         ∙ ap (λ t. text ++ t) (append_assoc (text_of_outcome outcome) (10 ∷ []) behind ∙ ap (λ os. answers_text os) (sym (first more)))
         ∙ p.told (made ∷ more)
-        ∙ ap (λ cs. answers_text (play (limits_with clients machine.workers) machine.events cs)) (sym (append_assoc p.calls (made ∷ []) more));
+        ∙ ap (λ cs. answers_text (play (program_limits clients machine.workers) machine.events cs)) (sym (append_assoc p.calls (made ∷ []) more));
     greatest_is = is ∙ ap (λ n. max n (client_number made.0)) p.greatest_is ∙ sym (clients_push p.calls made 0);
     most = omega (arith, is, p.most, number_most made.0 read.text_of.is_line.who_in_range);
   }
@@ -181,8 +181,8 @@ module _ (machine : MachineSize) (clients : ℕ) (bytes : List ℕ) (book : Reco
   pub played_no : (place : ℕ) → 0 < length rest → IsStuck (Ended CallLines) rest place → (all : List (Who × Call)) → IsTraceOf bytes all → ⊥
   played_no = read_no bytes p.calls rest p.read
 
-  text_is : text ≡ answers_text (play (limits_with clients machine.workers) machine.events p.calls)
-  text_is = sym (append-nil text) ∙ p.told [] ∙ ap (λ cs. answers_text (play (limits_with clients machine.workers) machine.events cs)) (append-nil p.calls)
+  text_is : text ≡ answers_text (play (program_limits clients machine.workers) machine.events p.calls)
+  text_is = sym (append-nil text) ∙ p.told [] ∙ ap (λ cs. answers_text (play (program_limits clients machine.workers) machine.events cs)) (append-nil p.calls)
 
   pub played_all : (played : Played) → played.text.items ≡ text → played.clients ≡ greatest → length rest ≡ 0 → IsPlayed machine clients bytes played
   played_all played all count none = record {

@@ -6,6 +6,7 @@ use Rattle.recorded.specs.Recordings.{Recording}
 use Rattle.tp_base.specs.declared.answers.Entry.{Entry}
 use Rattle.tp_base.specs.declared.limits.Limits.{Limits}
 use Rattle.tp_lines.specs.Answers.{IsEntryLine, line_of_entry}
+use Rattle.tp_report.specs.Moments.{moment_after}
 use Rattle.tp_report.specs.declared.headers.Format.{Format}
 use Rattle.tp_report.specs.declared.headers.Format.TheVariants.{One, Two}
 use Rattle.tp_report.specs.declared.headers.Header.{Header}
@@ -81,9 +82,14 @@ HasLine format line = IsLine format line (line_of line)
 abbrev pub entries_of : List Line → List Entry
 entries_of lines = map (λ (line : Line). line.entry) lines
 
--- entries as lines of format 1
-abbrev pub untimed : List Entry → List Line
-untimed entries = map (λ entry. record { moment = None; entry = entry }) entries
+-- entries as lines of format 2, where the clock stood at `now` before them
+abbrev pub timed_from : ℕ → List Entry → List Line
+timed_from now [] = []
+timed_from now (entry ∷ entries) = record { moment = Some (moment_after now entry); entry = entry } ∷ timed_from (moment_after now entry) entries
+
+-- those of a whole history: each has its moment
+abbrev pub timed : List Entry → List Line
+timed history = timed_from 0 history
 
 -- the last line, with the number of entries
 abbrev pub end_line : ℕ → List ℕ
@@ -98,17 +104,13 @@ NextLines header len None text = text ≡ end_line len
 abbrev pub lines_of : Header → List Line → List (List ℕ)
 lines_of header lines = header_line header ∷ map line_of lines
 
--- the lines of entries as a text
-abbrev pub entry_lines : List Entry → List ℕ
-entry_lines entries = trace_text (map line_of_entry entries)
-
--- the numbers of the first line of such a machine's history, in format 1
+-- the first line of the history of a machine of these limits, in format 2
 abbrev pub header_of : Limits → ℕ → Header
-header_of limits events = record { format = One; clients = limits.clients; workers = limits.workers; events = events; objects = 4095 }
+header_of limits events = record { format = Two; clients = limits.clients; workers = limits.workers; events = events; objects = limits.objects }
 
--- the text of a history in format 1: the first line, the lines of its entries and the end line
+-- the text of a history, in format 2: the first line, the lines of its entries with their moments, and the end line
 abbrev pub history_text : Limits → ℕ → List Entry → List ℕ
-history_text limits events history = trace_text (header_line (header_of limits events) ∷ map line_of_entry history ++ end_line (length history) ∷ [])
+history_text limits events history = trace_text (lines_of (header_of limits events) (timed history) ++ end_line (length history) ∷ [])
 
 abbrev pub history_told : Recording → List ℕ
 history_told r = history_text r.limits r.capacity r.history
@@ -156,4 +158,4 @@ pub record HasText (r : Recording) : Type 0 where
 
 -- where a history has a text, that is read as this history
 abbrev pub IsReadBack : Recording → Type 0
-IsReadBack r = HasText r → IsHistory (history_told r) (header_of r.limits r.capacity) (untimed r.history)
+IsReadBack r = HasText r → IsHistory (history_told r) (header_of r.limits r.capacity) (timed r.history)

@@ -60,6 +60,12 @@ pub record IsJudgedTo (book : Recording) (lines : List Line) (now : ℕ) (verdic
   pub written : KeepsUp book.history lines now verdict
   pub is_verdict : IsVerdict book.limits book.capacity lines verdict
 
+-- the machine on which a legal history was played has its entries
+abbrev pub IsBookOf : Header → List Line → Recording → Verdict → Type 0
+IsBookOf header lines book (Legal len) = book ≡ record { limits = limits_of header; capacity = header.events; history = entries_of lines }
+IsBookOf header lines book (NotLegal position outcome) = Unit {0}
+IsBookOf header lines book (WrongMoment position now) = Unit {0}
+
 pub record IsSameMachine (old new : Recording) : Type 0 where
   pub limits : new.limits ≡ old.limits
   pub capacity : new.capacity ≡ old.capacity

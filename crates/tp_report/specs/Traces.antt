@@ -1,8 +1,10 @@
 -- Traces of calls, and what they come to.
-use Rattle.std.specs.Prelude.{◌≡◌, ℕ, ◌≤◌, List, map, fold, max, All}
+use Rattle.std.specs.Prelude.{◌≡◌, ℕ, ◌≤◌, List, [], ◌∷◌, ◌++◌, map, fold, max, All}
 use Rattle.std.specs.Global.{Vec}
 use Rattle.line_grammar.specs.Traces.{trace_text}
-use Rattle.recorded.specs.ProgramLimits.{limits_with}
+use Rattle.recorded.specs.ProgramLimits.{program_limits}
+use Rattle.recorded.specs.Recordings.{entries_told}
+use Rattle.tp_base.specs.declared.answers.Entry.{Entry}
 use Rattle.tp_base.specs.declared.answers.Outcome.{Outcome}
 use Rattle.tp_base.specs.declared.calls.Call.{Call}
 use Rattle.tp_base.specs.declared.ids.Who.{Who}
@@ -11,6 +13,7 @@ use Rattle.tp_base.specs.declared.limits.Limits.{Limits}
 use Rattle.tp_lines.specs.Answers.{text_of_outcome}
 use Rattle.tp_lines.specs.Calls.{IsCallLine, line_of_call}
 use Rattle.tp_model.specs.History.{play}
+use Rattle.tp_report.specs.Histories.{history_text}
 use Rattle.tp_report.specs.declared.playing.MachineSize.{MachineSize}
 
 -- a machine of a trace has from 1 to 64 workers, and room for 16 to 131,072 entries
@@ -46,7 +49,7 @@ clients_in calls = fold (λ greatest (made : Who × Call). max greatest (client_
 
 -- the limits of a machine of this size for calls of these clients
 abbrev pub limits_of : MachineSize → List (Who × Call) → Limits
-limits_of machine calls = limits_with (clients_in calls) machine.workers
+limits_of machine calls = program_limits (clients_in calls) machine.workers
 
 -- what each call of the trace comes to on a machine of this size that has made no step
 abbrev pub output_of : MachineSize → List (Who × Call) → List ℕ
@@ -60,3 +63,27 @@ pub record IsOutput (machine : MachineSize) (bytes output : List ℕ) : Type 0 w
   pub calls : List (Who × Call)
   pub is_trace : IsTraceOf bytes calls
   pub output_is : output ≡ output_of machine calls
+
+-- ---- their history
+
+-- what is written down of calls that come to these outcomes
+abbrev pub entries_of : List (Who × Call) → List Outcome → List Entry
+entries_of [] outcomes = []
+entries_of (made ∷ calls) [] = []
+entries_of (made ∷ calls) (told ∷ outcomes) = entries_told made.0 made.1 told ++ entries_of calls outcomes
+
+-- the history that the calls of a trace make on a machine of this size that has made no step
+abbrev pub history_of : MachineSize → List (Who × Call) → List Entry
+history_of machine calls = entries_of calls (play (limits_of machine calls) machine.events calls)
+
+abbrev pub history_output_of : MachineSize → List (Who × Call) → List ℕ
+history_output_of machine calls = history_text (limits_of machine calls) machine.events (history_of machine calls)
+
+abbrev pub IsHistoryOf : MachineSize → List (Who × Call) → Vec ℕ → Type 0
+IsHistoryOf machine calls text = text.items ≡ history_output_of machine calls
+
+-- the bytes are a trace, and this is its history
+pub record IsHistoryOutput (machine : MachineSize) (bytes output : List ℕ) : Type 0 where
+  pub calls : List (Who × Call)
+  pub is_trace : IsTraceOf bytes calls
+  pub output_is : output ≡ history_output_of machine calls

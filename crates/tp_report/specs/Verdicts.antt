@@ -10,7 +10,7 @@ use Rattle.tp_lines.specs.Answers.{text_of_outcome}
 use Rattle.tp_model.specs.History.{IsLegal, after, room}
 use Rattle.tp_model.specs.Step.{outcome_of}
 use Rattle.tp_model.specs.Table.{step}
-use Rattle.tp_report.specs.Histories.{IsHistory, entries_of}
+use Rattle.tp_report.specs.Histories.{IsHistory, entries_of, history_text}
 use Rattle.tp_report.specs.Moments.{moment_of, moments}
 use Rattle.tp_report.specs.declared.headers.Header.{Header}
 use Rattle.tp_report.specs.declared.faults.TextFault.{TextFault}
@@ -20,7 +20,7 @@ use Rattle.tp_report.specs.declared.verdict.Verdict.TheVariants.{Legal, NotLegal
 
 -- the machine whose history this is
 abbrev pub limits_of : Header → Limits
-limits_of header = record (limits_with header.clients header.workers) { objects = header.objects }
+limits_of header = limits_with header.clients header.workers header.objects
 
 -- what the call of an entry comes to behind these entries
 abbrev pub outcome_behind : Limits → ℕ → List Entry → Entry → Outcome
@@ -87,6 +87,17 @@ IfLegal (Ok (Legal len)) P = P
 IfLegal (Ok (NotLegal position outcome)) P = Unit {0}
 IfLegal (Ok (WrongMoment position now)) P = Unit {0}
 IfLegal (Err fault) P = Unit {0}
+
+-- the answer is that the history is legal
+abbrev pub IsLegalTold : Result Verdict TextFault → Type 0
+IsLegalTold (Ok (Legal len)) = Unit {0}
+IsLegalTold (Ok (NotLegal position outcome)) = ⊥
+IsLegalTold (Ok (WrongMoment position now)) = ⊥
+IsLegalTold (Err fault) = ⊥
+
+-- a history in format 2, with the numbers of its first line
+abbrev pub migrated_text : Header → List Line → List ℕ
+migrated_text header lines = history_text (limits_of header) header.events (entries_of lines)
 
 abbrev pub verdict_text : Verdict → List ℕ
 verdict_text (Legal len) = codes "legal " ++ (decimal len ++ 10 ∷ [])

@@ -1,19 +1,20 @@
-//! Checking of histories.
+//! Checking of histories, and their change into format 2.
 
-ghost use Rattle.std.specs.Prelude.{◌≡◌, ◌≤◌, [], List, IfErr, IfOk};
+ghost use Rattle.std.specs.Prelude.{◌≡◌, ◌≤◌, ◌++◌, ◌⊎◌, [], List, IfErr, IfOk};
 ghost use Rattle.tp_model.specs.Laws.{KeepsLaws};
 ghost use Rattle.tp_report.specs.declared.headers.Header.{Header as FirstLine};
-ghost use Rattle.tp_report.specs.declared.lines.Line.{Line as Written};
+ghost use Rattle.tp_report.specs.declared.lines.Line.{Line as HistoryLine};
 ghost use Rattle.tp_report.specs.Faults.{IsOrNoMemory, IsPlace};
 ghost use Rattle.tp_report.specs.Histories.{HasHeaderLine, IsHistory, IsHistoryFault, entries_of};
-ghost use Rattle.tp_report.specs.Judging.{AreLines, IsLinesFault, IsVerdictBehind};
-ghost use Rattle.tp_report.specs.Verdicts.{IfLegal, IsJudged, IsVerdict, limits_of};
+ghost use Rattle.tp_report.specs.Judging.{AreLines, IsBookOf, IsLinesFault, IsVerdictBehind};
+ghost use Rattle.tp_report.specs.Verdicts.{IfLegal, IsJudged, IsLegalTold, IsVerdict, limits_of, migrated_text};
 
 use crate::faults::{CheckFault, fault_behind};
 use crate::headers::Header;
 use crate::lines::{Line, Next, read_header_line, read_next_line};
 use crate::moments::Stamp;
 use crate::verdict::{Verdict, judge};
+use crate::written::{Written, into_history};
 use recorded::Recorded;
 use std::alloc::Global;
 use tp_base::answers::{Answer, Entry, Look, Outcome};
@@ -28,31 +29,65 @@ use tp_base::ids::Who;
 /// history, and `NoMemory` where memory was refused.
 pub fn check<B: Recorded>(alloc: Global, bytes: &[u8]) -> Result<Verdict, CheckFault>
     ensures ok { IfOk result (λ verdict. IsJudged bytes.now verdict) }
-    ensures only { (header : FirstLine) (lines : List Written) → IsHistory bytes.now header lines →
+    ensures only { (header : FirstLine) (lines : List HistoryLine) → IsHistory bytes.now header lines →
         IsOrNoMemory (IsVerdict (limits_of header) header.events lines) result }
     ensures err { IfErr result (λ fault. IsPlace (IsHistoryFault bytes.now) fault) }
     // A history that it calls legal keeps the laws.
-    ensures laws { (header : FirstLine) (lines : List Written) → IsHistory bytes.now header lines → IfLegal result (KeepsLaws (limits_of header) (entries_of lines)) }
+    ensures laws { (header : FirstLine) (lines : List HistoryLine) → IsHistory bytes.now header lines → IfLegal result (KeepsLaws (limits_of header) (entries_of lines)) }
+{
+    let (_, verdict) = judge_all::<B>(alloc, bytes)?;
+    Ok(verdict)
+}
+
+/// Judges a history as `check` does, and where it is `Legal` appends its text in format 2: with the clients, workers,
+/// events and objects of its machine, and with the moment of each entry. On every other answer nothing is appended.
+pub fn migrate<B: Recorded>(
+    alloc: Global,
+    bytes: &[u8],
+    out: &mut Vec<u8>,
+) -> Result<Verdict, CheckFault>
+    ensures ok { IfOk result (λ verdict. IsJudged bytes.now verdict) }
+    ensures only { (header : FirstLine) (lines : List HistoryLine) → IsHistory bytes.now header lines →
+        IsOrNoMemory (IsVerdict (limits_of header) header.events lines) result }
+    ensures err { IfErr result (λ fault. IsPlace (IsHistoryFault bytes.now) fault) }
+    ensures text { (header : FirstLine) (lines : List HistoryLine) → IsHistory bytes.now header lines → IfLegal result (out.new.items ≡ out.old.items ++ migrated_text header lines) }
+    ensures same { IsLegalTold result ⊎ (out.new.items ≡ out.old.items) }
+{
+    let (written, verdict) = judge_all::<Written<B>>(alloc, bytes)?;
+    if let Verdict::Legal { .. } = verdict {
+        let (_, text) = into_history(alloc, written)?;
+        out.extend_from_slice(&text)?;
+    }
+    Ok(verdict)
+}
+
+// Reads a history, and answers the verdict on it and the machine on which it was played as long as it was right.
+fn judge_all<B: Recorded>(alloc: Global, bytes: &[u8]) -> Result<(B, Verdict), CheckFault>
+    ensures ok { IfOk result (λ judged. IsJudged bytes.now judged.1) }
+    ensures only { (header : FirstLine) (lines : List HistoryLine) → IsHistory bytes.now header lines →
+        IsOrNoMemory (λ judged. IsVerdict (limits_of header) header.events lines judged.1 × IsBookOf header lines (B.recording judged.0) judged.1) result }
+    ensures err { IfErr result (λ fault. IsPlace (IsHistoryFault bytes.now) fault) }
 {
     match read_header_line(bytes) {
         Err(place) => Err(fault_behind(0, place)),
         Ok((header, size)) => {
             let (_, rest) = bytes.split_at(size);
-            check_behind::<B>(alloc, header, rest)
+            judge_behind(alloc, header, rest)
         }
     }
 }
 
 // Reads what stands behind the header of a history, the lines of entries and the end line, and judges each line as it is
 // read.
-fn check_behind<B: Recorded>(
+fn judge_behind<B: Recorded>(
     alloc: Global,
     header: Header,
     text: &[u8],
-) -> Result<Verdict, CheckFault>
+) -> Result<(B, Verdict), CheckFault>
     requires { HasHeaderLine header }
-    ensures ok { IfOk result (λ verdict. IsVerdictBehind header text.now verdict) }
-    ensures only { (lines : List Written) → AreLines header text.now lines → IsOrNoMemory (IsVerdict (limits_of header) header.events lines) result }
+    ensures ok { IfOk result (λ judged. IsVerdictBehind header text.now judged.1) }
+    ensures only { (lines : List HistoryLine) → AreLines header text.now lines →
+        IsOrNoMemory (λ judged. IsVerdict (limits_of header) header.events lines judged.1 × IsBookOf header lines (B.recording judged.0) judged.1) result }
     ensures err { IfErr result (λ fault. IsPlace (IsLinesFault header text.now) fault) }
 {
     let mut book = B::open(alloc, header.limits(), header.events)?;
@@ -77,7 +112,7 @@ fn check_behind<B: Recorded>(
                 len += 1;
                 (_, rest) = rest.split_at(size);
             }
-            Next::End => return Ok(verdict),
+            Next::End => return Ok((book, verdict)),
             Next::Fault { place } => return Err(fault_behind(len + 1, place)),
         }
     }

@@ -28,8 +28,8 @@
 mod checking;
 mod counts;
 mod faults;
+mod frame;
 mod headers;
-mod history;
 mod json;
 mod left;
 mod lines;
@@ -39,12 +39,12 @@ mod summary;
 mod verdict;
 mod written;
 
-pub use checking::check;
+pub use checking::{check, migrate};
 pub use counts::{Counted, Counts};
 pub use faults::{CheckFault, TextFault};
 pub use json::print_json;
 pub use left::{LeftRow, left_callbacks};
-pub use playing::{MachineSize, trace};
+pub use playing::{MachineSize, history, trace};
 pub use summary::print_summary;
 pub use verdict::{Verdict, print_verdict};
 pub use written::{Written, WrittenLines, into_history};

@@ -2,12 +2,13 @@
 
 ghost use Rattle.std.specs.Prelude.{◌≡◌, ◌++◌, IfErr, IfOk};
 ghost use Rattle.line_grammar.specs.Language.{IsStuck};
+ghost use Rattle.tp_base.specs.declared.ids.Who.{Who as Actor};
 ghost use Rattle.tp_report.specs.Moments.{moment_after};
 ghost use Rattle.tp_report.specs.Readings.{IsStamp, MomentLines};
 
 use line_grammar::numbers::read_number;
 use line_grammar::words::{behind, behind_word};
-use tp_base::answers::{Answer, Entry};
+use tp_base::answers::Answer;
 use tp_base::calls::Call;
 
 const CLOCK_END: u64 = 9_223_372_036_854_775_807;
@@ -72,10 +73,10 @@ fn read_other_moment<'a>(text: &'a [u8], stamp: &mut Stamp<'a>) -> Result<&'a [u
 
 /// The time of the clock behind an entry, from that before it.
 #[inline(always)]
-pub fn clock_after(now: u64, entry: &Entry) -> u64
-    ensures { result ≡ moment_after now entry.now }
+pub fn clock_after(now: u64, call: &Call, answer: &Answer) -> u64
+    ensures { (who : Actor) → result ≡ moment_after now (record { who = who; call = call.now; answer = answer.now }) }
 {
-    match (&entry.call, &entry.answer) {
+    match (call, answer) {
         (Call::Advance { .. }, Answer::Advanced { now: told, .. }) => *told,
         _ => now,
     }

@@ -2,7 +2,7 @@
 
 ghost use Rattle.std.specs.Prelude.{◌≡◌, ℕ, ◌+◌, ◌≤◌, ◌<◌, ◌-◌, ◌^◌, ◌++◌, ◌∷◌, [], List, IfErr, IfOk, IfSome, OnOk, length, max};
 ghost use Rattle.line_grammar.specs.Traces.{IsTraceFault};
-ghost use Rattle.recorded.specs.ProgramLimits.{limits_with};
+ghost use Rattle.recorded.specs.ProgramLimits.{program_limits};
 ghost use Rattle.recorded.specs.Recordings.{IsFirstOf, outcome_behind};
 ghost use Rattle.tp_base.specs.declared.calls.Call.{Call as Made};
 ghost use Rattle.tp_base.specs.Ranges.{IsCallInRange};
@@ -10,13 +10,14 @@ ghost use Rattle.tp_base.specs.declared.ids.Who.{Who as Actor};
 ghost use Rattle.tp_lines.specs.Answers.{text_of_outcome};
 ghost use Rattle.tp_lines.specs.Calls.{CallLines, IsLine};
 ghost use Rattle.tp_report.specs.Faults.{IsOrNoMemory, IsPlace};
-ghost use Rattle.tp_report.specs.Playing.{IsPlayed, IsPlayedOf, IsPlayedTo, IsSameAgain, size_of};
+ghost use Rattle.tp_report.specs.Playing.{IsBookOf, IsPlayed, IsPlayedOf, IsPlayedTo, IsSameAgain, IsWrittenDown, IsWrittenDownOf, size_of};
 ghost use Rattle.tp_report.specs.Readings.{Ended};
 ghost use Rattle.tp_report.specs.declared.playing.MachineSize.{MachineSize as Size};
-ghost use Rattle.tp_report.specs.Traces.{client_number, IsMachineSize, IsOutput, IsOutputOf, IsTraceOf};
+ghost use Rattle.tp_report.specs.Traces.{client_number, IsHistoryOf, IsHistoryOutput, IsMachineSize, IsOutput, IsOutputOf, IsTraceOf};
 
 use crate::faults::{TextFault, fault_behind};
 use crate::lines::read_call;
+use crate::written::{Written, into_history};
 use recorded::{Recorded, program_limits};
 use std::alloc::{AllocError, Global};
 use tp_base::answers::{Look, Outcome};
@@ -63,10 +64,58 @@ pub fn trace<B: Recorded>(
     Ok(again.text)
 }
 
+/// Plays the calls of a text as `trace` does, and answers the history that they make, in format 2: a line for each call
+/// that was accepted or refused.
+///
+/// `At` comes exactly where the bytes are no lines of calls, and `NoMemory` where memory was refused.
+pub fn history<B: Recorded>(
+    alloc: Global,
+    bytes: &[u8],
+    machine: MachineSize,
+) -> Result<Vec<u8>, TextFault>
+    requires few { length bytes.now < 2 ^ 32 - 1 }
+    requires size { IsMachineSize machine }
+    ensures ok { IfOk result (λ text. IsHistoryOutput machine bytes.now text.items) }
+    ensures only { (calls : List (Actor × Made)) → IsTraceOf bytes.now calls → IsOrNoMemory (IsHistoryOf machine calls) result }
+    ensures err { IfErr result (λ fault. IsPlace (IsTraceFault IsLine bytes.now) fault) }
+{
+    let guess = guess_clients(bytes);
+    let written = write_down::<B>(alloc, bytes, machine, guess)?;
+    let clients = written.clients;
+    if clients == guess {
+        return Ok(written.text);
+    }
+    drop(written);
+    let again = write_down::<B>(alloc, bytes, machine, clients)?;
+    Ok(again.text)
+}
+
+// Plays the calls of a trace on a machine of this size with so many clients, and answers their history.
+fn write_down<B: Recorded>(
+    alloc: Global,
+    bytes: &[u8],
+    machine: MachineSize,
+    clients: u32,
+) -> Result<Played, TextFault>
+    requires few { length bytes.now < 2 ^ 32 - 1 }
+    requires size { IsMachineSize machine }
+    requires clients { clients ≤ 16 }
+    ensures ok { IfOk result (λ written. IsWrittenDown machine clients bytes.now written) }
+    ensures most { IfOk result (λ written. written.clients ≤ 16) }
+    ensures only { (calls : List (Actor × Made)) → IsTraceOf bytes.now calls → IsOrNoMemory (IsWrittenDownOf machine clients calls) result }
+    ensures err { IfErr result (λ fault. IsPlace (IsTraceFault IsLine bytes.now) fault) }
+{
+    let limits = program_limits(clients, machine.workers);
+    let mut book = Written::<B>::open(alloc, limits, machine.events)?;
+    let Played { clients, .. } = play_calls(alloc, &mut book, bytes)?;
+    let (_, text) = into_history(alloc, book)?;
+    Ok(Played { text, clients })
+}
+
 /// What the calls of a trace came to.
 #[derive(Drop)]
 pub struct Played {
-    /// The line of each outcome.
+    /// The line of each outcome, or their history.
     pub text: Vec<u8>,
     /// The greatest number of a client that made a call, or 0.
     pub clients: u32,
@@ -98,13 +147,15 @@ fn play<B: Recorded>(
 // The same on a book without entries.
 fn play_calls<B: Recorded>(alloc: Global, book: &mut B, bytes: &[u8]) -> Result<Played, TextFault>
     requires few { length bytes.now < 2 ^ 32 - 1 }
-    requires limits { (B.recording book.old).limits ≡ limits_with (B.recording book.old).limits.clients (B.recording book.old).limits.workers }
+    requires limits { (B.recording book.old).limits ≡ program_limits (B.recording book.old).limits.clients (B.recording book.old).limits.workers }
     requires clients { (B.recording book.old).limits.clients ≤ 16 }
     requires empty { (B.recording book.old).history ≡ [] }
     ensures ok { IfOk result (λ played. IsPlayed (size_of (B.recording book.old)) (B.recording book.old).limits.clients bytes.now played) }
     ensures most { IfOk result (λ played. played.clients ≤ 16) }
     ensures only { (calls : List (Actor × Made)) → IsTraceOf bytes.now calls → IsOrNoMemory (IsPlayedOf (size_of (B.recording book.old)) (B.recording book.old).limits.clients calls) result }
     ensures err { IfErr result (λ fault. IsPlace (IsTraceFault IsLine bytes.now) fault) }
+    // What was made on the book is their history.
+    ensures book { IfOk result (λ played. (calls : List (Actor × Made)) → IsTraceOf bytes.now calls → IsBookOf (B.recording book.old) calls (B.recording book.new)) }
 {
     let mut text = Lines::new(alloc);
     let mut greatest = 0;

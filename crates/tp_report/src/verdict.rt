@@ -52,7 +52,7 @@ pub fn judge<B: Recorded>(
     if !is_answer(place, &entry.answer) {
         return put_not_legal(verdict, position, place);
     }
-    *now = clock_after(*now, entry);
+    *now = clock_after(*now, &entry.call, &entry.answer);
     if !is_moment(line.moment, *now) {
         return put_wrong_moment(verdict, position, *now);
     }

@@ -4,7 +4,8 @@ ghost use Rattle.std.specs.Prelude.{◌≡◌, IfOk};
 ghost use Rattle.tp_report.specs.Histories.{history_told, IsReadBack};
 ghost use Rattle.tp_report.specs.Writing.{IsWritten};
 
-use crate::history::{append_end, append_header};
+use crate::frame::{append_end, append_header};
+use crate::moments::clock_after;
 use kept_book::{Observed, Observer};
 use recorded::Recorded;
 use std::alloc::{AllocError, Global};
@@ -22,21 +23,26 @@ pub type Written<B> = Observed<B, WrittenLines>;
 /// The memory for the lines is taken where the history is opened, as much as the longest lines of the longest
 /// history need. What no line stands in isn't touched.
 #[derive(Drop)]
-pub struct WrittenLines(ReservedLines);
+pub struct WrittenLines {
+    lines: ReservedLines,
+    // The time of the clock behind the last entry.
+    now: u64,
+}
 
 impl Observer for WrittenLines {
-    ghost HasNoted = { λ r written. IsWritten r written.0 };
+    ghost HasNoted = { λ r written. IsWritten r written.lines written.now };
 
     fn open(alloc: Global, limits: Limits, capacity: u32) -> Result<WrittenLines, AllocError> {
         let mut first = Vec::new(alloc);
         append_header(alloc, limits, capacity, &mut first)?;
         let lines = ReservedLines::behind(first, capacity.max(limits.clients))?;
-        Ok(WrittenLines(lines))
+        Ok(WrittenLines { lines, now: 0 })
     }
 
     #[inline(always)]
     fn note(&mut self, who: Who, call: &Call, answer: &Answer) {
-        self.0.entry(who, call, answer);
+        self.now = clock_after(self.now, call, answer);
+        self.lines.entry(self.now, who, call, answer);
     }
 }
 
@@ -50,7 +56,7 @@ pub fn into_history<B: Recorded>(
     ensures text { IfOk result (λ parts. parts.1.items ≡ history_told written) }
     ensures read_back { IsReadBack written }
 {
-    let (book, WrittenLines(lines)) = written.into_parts();
+    let (book, WrittenLines { lines, .. }) = written.into_parts();
     let mut text = lines.into_text();
     append_end(alloc, book.len(), &mut text)?;
     Ok((book, text))

@@ -4,7 +4,7 @@ use Rattle.std.specs.Str.{bytes_eq}
 use Rattle.tp_report.specs.declared.playing.MachineSize.{MachineSize}
 use Rattle.tp_run.specs.Numbers.{number_in}
 use Rattle.tp_run.specs.declared.command.Command.{Command}
-use Rattle.tp_run.specs.declared.command.Command.TheVariants.{Trace, Check, Gen, Run, Big}
+use Rattle.tp_run.specs.declared.command.Command.TheVariants.{Trace, History, Check, Migrate, Gen, Run, Big}
 use Rattle.tp_run.specs.declared.command.Name.{Name}
 use Rattle.tp_run.specs.declared.command.Name.TheVariants as name
 use Rattle.tp_words.specs.Said.{said, Said}
@@ -13,7 +13,9 @@ use Rattle.tp_words.specs.Said.{said, Said}
 abbrev pub name_in : List ℕ → Option Name
 name_in word =
     if bytes_eq word (codes "trace") then Some name.Trace
+    else if bytes_eq word (codes "history") then Some name.History
     else if bytes_eq word (codes "check") then Some name.Check
+    else if bytes_eq word (codes "migrate") then Some name.Migrate
     else if bytes_eq word (codes "gen") then Some name.Gen
     else if bytes_eq word (codes "run") then Some name.Run
     else if bytes_eq word (codes "big") then Some name.Big
@@ -53,7 +55,9 @@ with_number text command = option_map command (option_and_then number_in text)
 -- the text behind the name
 abbrev pub command_named : Name → ℕ → Option ℕ → MachineSize → Bool → Option (List ℕ) → Option Command
 command_named name.Trace threads seed machine json number = without_number number (Trace machine)
+command_named name.History threads seed machine json number = without_number number (History machine)
 command_named name.Check threads seed machine json number = without_number number Check
+command_named name.Migrate threads seed machine json number = without_number number Migrate
 command_named name.Gen threads seed machine json number = with_number number (λ n. Gen n)
 command_named name.Run threads seed machine json number = without_number number (Run threads seed machine json)
 command_named name.Big threads seed machine json number = with_number number (λ n. Big n machine json)

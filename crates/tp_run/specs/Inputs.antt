@@ -7,14 +7,14 @@ use Rattle.tp_base.specs.declared.ids.Who.{Who}
 use Rattle.tp_edge.specs.Taken.{AreAll}
 use Rattle.tp_lines.specs.Calls.{IsLine}
 use Rattle.tp_run.specs.declared.command.Command.{Command}
-use Rattle.tp_run.specs.declared.command.Command.TheVariants.{Trace, Check, Gen, Run, Big}
+use Rattle.tp_run.specs.declared.command.Command.TheVariants.{Trace, History, Check, Migrate, Gen, Run, Big}
 use Rattle.tp_run.specs.declared.played.Layout.{Layout}
 use Rattle.tp_run.specs.declared.status.Ending.{Ending}
 use Rattle.tp_run.specs.declared.status.Ending.TheVariants.{Fine, NotLegal}
 use Rattle.tp_run.specs.Played.{IsPlayed, limits_for, long_script}
 use Rattle.tp_report.specs.Histories.{IsHistory, IsHistoryFault}
-use Rattle.tp_report.specs.Traces.{IsMachineSize, IsTraceOf, output_of}
-use Rattle.tp_report.specs.Verdicts.{IsVerdict, limits_of, verdict_text}
+use Rattle.tp_report.specs.Traces.{IsMachineSize, IsTraceOf, history_output_of, output_of}
+use Rattle.tp_report.specs.Verdicts.{IsVerdict, limits_of, migrated_text, verdict_text}
 use Rattle.tp_report.specs.declared.headers.Header.{Header}
 use Rattle.tp_report.specs.declared.lines.Line.{Line as HistoryLine}
 use Rattle.tp_report.specs.declared.playing.MachineSize.{MachineSize}
@@ -29,14 +29,23 @@ ending_of (verdict.Legal len) = Fine
 ending_of (verdict.NotLegal position outcome) = NotLegal
 ending_of (verdict.WrongMoment position now) = NotLegal
 
--- the bytes are a history, this is the text of the machine's verdict on it, and its ending
-pub record IsChecked (bytes output : List ℕ) (ending : Ending) : Type 0 where
+-- what `check` and `migrate` write of a history on which this is the verdict
+abbrev pub verdict_written : Header → List HistoryLine → Verdict → List ℕ
+verdict_written header lines told = verdict_text told
+
+abbrev pub migration_written : Header → List HistoryLine → Verdict → List ℕ
+migration_written header lines (verdict.Legal len) = migrated_text header lines
+migration_written header lines (verdict.NotLegal position outcome) = verdict_text (verdict.NotLegal position outcome)
+migration_written header lines (verdict.WrongMoment position now) = verdict_text (verdict.WrongMoment position now)
+
+-- the bytes are a history, this is what is written of it and of the machine's verdict on it, and the ending
+pub record IsJudged (bytes output : List ℕ) (ending : Ending) (written : Header → List HistoryLine → Verdict → List ℕ) : Type 0 where
   pub header : Header
   pub lines : List HistoryLine
   pub told : Verdict
   pub is_history : IsHistory bytes header lines
   pub is_verdict : IsVerdict (limits_of header) header.events lines told
-  pub output_is : output ≡ verdict_text told
+  pub output_is : output ≡ written header lines told
   pub ending_is : ending ≡ ending_of told
 
 -- the text is no script, and this is the place of its first fault
@@ -57,7 +66,9 @@ short_layout json = record { history = false; json = json }
 -- the machine of a trace or a run is of a size that there is, and a run has a thread, and one alone where it has a seed
 abbrev pub IsPlayable : Command → Type 0
 IsPlayable (Trace machine) = IsMachineSize machine
+IsPlayable (History machine) = IsMachineSize machine
 IsPlayable Check = Unit {0}
+IsPlayable Migrate = Unit {0}
 IsPlayable (Gen number) = Unit {0}
 IsPlayable (Run threads seed machine json) = (1 ≤ threads) × (is_some seed ≡ true → threads ≡ 1) × IsMachineSize machine
 IsPlayable (Big number machine json) = IsMachineSize machine
@@ -66,7 +77,9 @@ IsPlayable (Big number machine json) = IsMachineSize machine
 abbrev pub reads : Option Command → Bool
 reads None = false
 reads (Some (Trace machine)) = true
+reads (Some (History machine)) = true
 reads (Some Check) = true
+reads (Some Migrate) = true
 reads (Some (Gen number)) = false
 reads (Some (Run threads seed machine json)) = true
 reads (Some (Big number machine json)) = false
@@ -91,7 +104,9 @@ IsTold command bytes left = IsToldIf (reads command) bytes left
 abbrev pub Gives : Option Command → List ℕ → List ℕ → Ending → Type 0
 Gives None bytes output ending = ⊥
 Gives (Some (Trace machine)) bytes output ending = (calls : List (Who × Call)) × IsTraceOf bytes calls × (output ≡ output_of machine calls) × (ending ≡ Fine)
-Gives (Some Check) bytes output ending = IsChecked bytes output ending
+Gives (Some (History machine)) bytes output ending = (calls : List (Who × Call)) × IsTraceOf bytes calls × (output ≡ history_output_of machine calls) × (ending ≡ Fine)
+Gives (Some Check) bytes output ending = IsJudged bytes output ending verdict_written
+Gives (Some Migrate) bytes output ending = IsJudged bytes output ending migration_written
 Gives (Some (Gen number)) bytes output ending = (output ≡ generated number 64) × (ending ≡ Fine)
 Gives (Some (Run threads seed machine json)) bytes output ending = IsPlayedOf bytes threads seed machine (whole_layout json) output ending
 Gives (Some (Big number machine json)) bytes output ending = IsPlayedOf (long_script number) 1 None machine (short_layout json) output ending
@@ -105,6 +120,8 @@ IsDetermined _ = Unit {0}
 abbrev pub IsInGrammar : Option Command → List ℕ → Type 0
 IsInGrammar None bytes = ⊥
 IsInGrammar (Some (Trace machine)) bytes = (calls : List (Who × Call)) × IsTraceOf bytes calls
+IsInGrammar (Some (History machine)) bytes = (calls : List (Who × Call)) × IsTraceOf bytes calls
+IsInGrammar (Some Migrate) bytes = (header : Header) × (lines : List HistoryLine) × IsHistory bytes header lines
 IsInGrammar (Some Check) bytes = (header : Header) × (lines : List HistoryLine) × IsHistory bytes header lines
 IsInGrammar (Some (Gen number)) bytes = Unit {0}
 IsInGrammar (Some (Run threads seed machine json)) bytes = (script : List Line) × IsScript bytes script
@@ -114,7 +131,9 @@ IsInGrammar (Some (Big number machine json)) bytes = Unit {0}
 abbrev pub IsFaultyAt : Option Command → List ℕ → ℕ → ℕ → Type 0
 IsFaultyAt None bytes line column = ⊥
 IsFaultyAt (Some (Trace machine)) bytes line column = IsTraceFault IsLine bytes line column
+IsFaultyAt (Some (History machine)) bytes line column = IsTraceFault IsLine bytes line column
 IsFaultyAt (Some Check) bytes line column = IsHistoryFault bytes line column
+IsFaultyAt (Some Migrate) bytes line column = IsHistoryFault bytes line column
 IsFaultyAt (Some (Gen number)) bytes line column = ⊥
 IsFaultyAt (Some (Run threads seed machine json)) bytes line column = IsScriptFaultAt bytes line column
 IsFaultyAt (Some (Big number machine json)) bytes line column = ⊥

@@ -1,7 +1,7 @@
 -- What the runs of a script are, and what is made of one.
 use Rattle.std.specs.Prelude.{◌≡◌, ℕ, Bool, true, false, List, [], ◌++◌, ◌⊎◌, Option, None, Some}
 use Rattle.std.specs.List.{list_any}
-use Rattle.recorded.specs.ProgramLimits.{limits_with}
+use Rattle.recorded.specs.ProgramLimits.{program_limits}
 use Rattle.recorded.specs.Recordings.{Recording}
 use Rattle.script_generator.specs.Scripts.{generated}
 use Rattle.tp_base.specs.declared.answers.Entry.{Entry}
@@ -37,7 +37,7 @@ routines_of script = given next_at progress_after script
 
 -- the machine has the script's clients
 abbrev pub limits_for : List Line → MachineSize → Limits
-limits_for script machine = limits_with (clients_of script) machine.workers
+limits_for script machine = program_limits (clients_of script) machine.workers
 
 -- the long script of a number
 abbrev pub long_script : ℕ → List ℕ

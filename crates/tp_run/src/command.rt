@@ -17,8 +17,14 @@ pub enum Command {
     Trace {
         machine: MachineSize,
     },
+    /// Plays the calls of the input on a machine of this size, and writes their history.
+    History {
+        machine: MachineSize,
+    },
     /// Reads a history, and writes whether it is legal.
     Check,
+    /// Reads a history, and writes it in format 2 if it is legal, or else what `Check` writes.
+    Migrate,
     /// Reads nothing, and writes the script of a number.
     Gen {
         number: u64,
@@ -86,7 +92,11 @@ impl Command {
         ensures { result ≡ reads (Some self) }
     {
         match self {
-            Command::Trace { .. } | Command::Check | Command::Run { .. } => true,
+            Command::Trace { .. }
+            | Command::History { .. }
+            | Command::Check
+            | Command::Migrate
+            | Command::Run { .. } => true,
             Command::Gen { .. } | Command::Big { .. } => false,
         }
     }
@@ -96,7 +106,9 @@ impl Command {
 #[derive(Clone, Copy)]
 pub enum Name {
     Trace,
+    History,
     Check,
+    Migrate,
     Gen,
     Run,
     Big,
@@ -133,7 +145,9 @@ fn command_said(texts: &Texts) -> Option<Command>
     }
     match name {
         Name::Trace => without_number(texts.number, Command::Trace { machine }),
+        Name::History => without_number(texts.number, Command::History { machine }),
         Name::Check => without_number(texts.number, Command::Check),
+        Name::Migrate => without_number(texts.number, Command::Migrate),
         Name::Gen => {
             let number = number(texts.number?.as_bytes())?;
             Some(Command::Gen { number })
@@ -164,7 +178,9 @@ fn name_in(word: &str) -> Option<Name>
 {
     match word.as_bytes() {
         b"trace" => Some(Name::Trace),
+        b"history" => Some(Name::History),
         b"check" => Some(Name::Check),
+        b"migrate" => Some(Name::Migrate),
         b"gen" => Some(Name::Gen),
         b"run" => Some(Name::Run),
         b"big" => Some(Name::Big),

@@ -6,7 +6,7 @@ ghost use Rattle.tp_report.specs.Traces.{IsMachineSize};
 ghost use Rattle.tp_report.specs.Verdicts.{verdict_text};
 ghost use Rattle.tp_run.specs.Inputs.{ending_of, short_layout, whole_layout, IsPlayable, IsPlayedOf};
 ghost use Rattle.tp_run.specs.Played.{long_script};
-ghost use Rattle.tp_run.specs.declared.command.Command.TheVariants.{Run};
+ghost use Rattle.tp_run.specs.declared.command.Command.TheVariants.{Migrate, Run};
 
 use crate::command::{Command, Several};
 use crate::played::{play_script, play_script_alone, play_script_drawn, play_unwritten};
@@ -17,7 +17,7 @@ use script_generator::{generate, generated_is_script};
 use std::alloc::{AllocError, Global};
 use std::sync::Wait;
 use std::thread::Threads;
-use tp_report::{MachineSize, Verdict, check, print_verdict, trace};
+use tp_report::{MachineSize, Verdict, check, history, migrate, print_verdict, trace};
 use tp_script::{ScriptFault, one_script_a_text, parse_script};
 use worker_gate::{Gate, one_history_alone, one_history_drawn};
 
@@ -56,10 +56,18 @@ pub fn reply<B: Recorded, G: Gate>(
                 ending: Ending::Fine,
             })
         }
+        Command::History { machine } => {
+            let text = history::<B>(alloc, bytes, machine)?;
+            Ok(Output {
+                text,
+                ending: Ending::Fine,
+            })
+        }
         Command::Check => {
             let verdict = check::<B>(alloc, bytes)?;
             Ok(output_of(alloc, &verdict)?)
         }
+        Command::Migrate => migrated::<B>(alloc, bytes),
         Command::Gen { number } => {
             let text = generate(alloc, number, SCRIPT_LENGTH)?;
             Ok(Output {
@@ -88,6 +96,21 @@ pub fn reply<B: Recorded, G: Gate>(
             let output = play_number::<B, G>(alloc, number, machine, json, gate)?;
             Ok(output)
         }
+    }
+}
+
+// What `migrate` writes of the history that is its input, and how it ends.
+fn migrated<B: Recorded>(alloc: Global, bytes: &[u8]) -> Result<Output, Status>
+    ensures { IsReply Migrate bytes.now result }
+{
+    let mut text = Vec::new(alloc);
+    let verdict = migrate::<B>(alloc, bytes, &mut text)?;
+    match verdict {
+        Verdict::Legal { .. } => Ok(Output {
+            text,
+            ending: Ending::Fine,
+        }),
+        Verdict::NotLegal { .. } | Verdict::WrongMoment { .. } => Ok(output_of(alloc, &verdict)?),
     }
 }
 

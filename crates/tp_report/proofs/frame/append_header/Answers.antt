@@ -1,6 +1,6 @@
 use Rattle.std.proofs.Common.{◌≡◌, ℕ, List, [], ◌∷◌, ◌++◌, ap, sym, ◌∙◌, append_assoc, append-nil}
 use Rattle.std.specs.Prelude.{codes, decimal}
-use Rattle.tp_report.proofs.history.append_header.Goals as goal
+use Rattle.tp_report.proofs.frame.append_header.Goals as goal
 
 line_is : (clients workers events : List ℕ)
     → codes "history 1 clients " ++ (clients ++ (codes " workers " ++ (workers ++ (codes " events " ++ (events ++ 10 ∷ [])))))

@@ -16,9 +16,14 @@ pub fn append_header(
     ensures ok { OnOk result (out.new.items ≡ out.old.items ++ (header_line (header_of limits events) ++ 10 ∷ [])) }
     ensures err { OnErr result (out.new.items ≡ out.old.items) }
 {
-    let (clients, workers) = (limits.clients, limits.workers);
+    let Limits {
+        clients,
+        workers,
+        objects,
+        ..
+    } = limits;
     let line = format!(in alloc;
-        "history 1 clients {clients} workers {workers} events {events}\n"
+        "history 2 clients {clients} workers {workers} events {events} objects {objects}\n"
     )?;
     out.extend_from_slice(line.as_bytes())?;
     Ok(())
