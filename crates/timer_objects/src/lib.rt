@@ -5,9 +5,10 @@
 //!
 //! `open` takes the memory for all objects, writes to none of it, and no other call takes any: `create`
 //! fills the list of objects as far as its number, and `set` that of periods as far as the object that it
-//! sets, so numbers that are never used cost nothing. `create` enters an object and `close` strikes it out; `set` does what SetThreadpoolTimer does to the settings, and `unset` ends
-//! one; `expire` lets the first timer expire, if it is due; `is_set`, `count_due` and `len` read, and
-//! `note_due` is for a count that is asked for again.
+//! sets, so numbers that are never used cost nothing. `create` enters an object and `close` strikes it
+//! out; `set` does what SetThreadpoolTimer does to the settings, and `unset` ends one; `expire` lets the
+//! first timer expire, if it is due; `is_set`, `count_due` and `len` read, and `note_due` is for a count
+//! that is asked for again.
 //! What the numbers mean is defined in tp_base (`specs/Timers`): times are in units of 100 ns since the
 //! clock began, periods and windows in milliseconds.
 //!
