@@ -1,4 +1,5 @@
 pub mod Expiry
 pub mod Kept
 pub mod NextDue
+pub mod Padding
 pub mod Shown

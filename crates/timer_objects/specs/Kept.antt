@@ -1,8 +1,12 @@
 -- What timer objects keep between calls.
-use Rattle.std.specs.Prelude.{◌≡◌, ℕ, ◌+◌, ◌≤◌, ◌<◌, ◌^◌, Bool, true, false, List, All, length, map, slice_index_or}
+use Rattle.std.specs.Prelude.{◌≡◌, ℕ, ◌+◌, ◌-◌, ◌≤◌, ◌<◌, ◌^◌, ◌++◌, Bool, true, false, List, All, length, map, replicate, slice_index_or}
 use Rattle.tp_base.specs.declared.rows.TimerSetting.{TimerSetting}
 use Rattle.timer_heap.specs.Dues.{Entry, Dues}
 use Rattle.timer_objects.specs.declared.Pace.{Pace}
+
+-- a list of so many: no object is there past those that are filled
+abbrev pub padded : ℕ → List Bool → List Bool
+padded n items = items ++ replicate (n - length items) false
 
 abbrev pub pace_of : List Pace → ℕ → Pace
 pace_of paces key = slice_index_or paces key (record { period = 0; window = 0 })
@@ -19,10 +23,11 @@ setting_of paces e = record {
 abbrev pub settings_of : List Pace → List Entry → List TimerSetting
 settings_of paces entries = map (setting_of paces) entries
 
--- there is a place for each number, no object 0, a key for each object, only objects have due times, each of these has a
--- pace, and there is memory for the paces of all
-pub record IsKept (capacity : ℕ) (there : List Bool) (dues : Dues) (paces : List Pace) : Type 0 where
-  pub places : length there ≡ dues.keys + 1
+-- there is memory for a place of each number and for the paces of all, no object 0, a key for each object, only objects
+-- have due times, and each of these has a pace
+pub record IsKept (room capacity : ℕ) (there : List Bool) (dues : Dues) (paces : List Pace) : Type 0 where
+  pub places : length there ≤ dues.keys + 1
+  pub numbered : dues.keys + 1 ≤ room
   pub paced : All (λ e. e.key < length paces) dues.entries
   pub many : length paces ≤ dues.keys
   pub reserved : dues.keys ≤ capacity

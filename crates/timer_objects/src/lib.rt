@@ -3,10 +3,12 @@
 //! expire: by due time, and at the same due time by object number. The timeout of an armed wait is a
 //! setting too, of a wait object that is entered here; it has no period.
 //!
-//! `open` takes the memory for all objects, and no other call takes any. `create` enters an object
-//! and `close` strikes it out; `set` does what SetThreadpoolTimer does to the settings, and `unset` ends
-//! one; `expire` lets the first timer expire, if it is due; `is_set`, `count_due` and `len` read, and
-//! `note_due` is for a count that is asked for again.
+//! `open` takes the memory for all objects, writes to none of it, and no other call takes any: `create`
+//! fills the list of objects as far as its number, and `set` that of periods as far as the object that it
+//! sets, so numbers that are never used cost nothing. `create` enters an object and `close` strikes it
+//! out; `set` does what SetThreadpoolTimer does to the settings, and `unset` ends one; `expire` lets the
+//! first timer expire, if it is due; `is_set`, `count_due` and `len` read, and `note_due` is for a count
+//! that is asked for again.
 //! What the numbers mean is defined in tp_base (`specs/Timers`): times are in units of 100 ns since the
 //! clock began, periods and windows in milliseconds.
 //!
@@ -46,11 +48,13 @@ use tp_base::rows::TimerSetting;
 /// The timer objects and their settings.
 #[derive(Drop)]
 pub struct TimerObjects {
-    // At the place of an object's number. There is no object 0.
+    // At the place of an object's number whether it is there. Filled by `create`, as far as the greatest
+    // number that was entered; past that none is there. There is no object 0.
     there: Vec<bool>,
     // The due time of each timer that is set, under the key of its object.
     dues: DueHeap,
-    // What is to be after that, at the place of the key, for each that was reached.
+    // What is to be after that, at the place of the key. Filled as a setting begins, as far as the greatest
+    // key that was set.
     paces: Vec<Pace>,
 }
 
@@ -79,12 +83,13 @@ impl Model for TimerObjects {
 
     ghost Value = { Timers };
 
+    ghost use Rattle.std.specs.Prelude.{◌+◌};
     ghost use Rattle.std.specs.Vec.{vec_capacity};
-    ghost use Rattle.timer_objects.specs.Kept.{IsKept, settings_of};
+    ghost use Rattle.timer_objects.specs.Kept.{IsKept, padded, settings_of};
 
-    ghost view = { λ a. record { limit = a.dues.keys; there = a.there.items; settings = settings_of a.paces.items a.dues.entries } };
+    ghost view = { λ a. record { limit = a.dues.keys; there = padded (a.dues.keys + 1) a.there.items; settings = settings_of a.paces.items a.dues.entries } };
 
-    ghost invariant = { λ a. IsKept (vec_capacity a.paces) a.there.items a.dues a.paces.items };
+    ghost invariant = { λ a. IsKept (vec_capacity a.there) (vec_capacity a.paces) a.there.items a.dues a.paces.items };
 }
 
 // The key of an object: its number, counted from 0.
@@ -103,7 +108,7 @@ impl TimerObjects {
         ensures { IfOk result (λ timers. timers ≡ record { limit = limit; there = replicate (limit + 1) false; settings = [] }) }
     {
         Ok(TimerObjects {
-            there: vec![in alloc; false; limit as usize + 1]?,
+            there: Vec::with_capacity(alloc, limit as usize + 1)?,
             dues: DueHeap::open(alloc, limit)?,
             paces: Vec::with_capacity(alloc, limit as usize)?,
         })
@@ -131,10 +136,12 @@ impl TimerObjects {
         requires free { is_there self.old object.0 ≡ false }
         ensures { self.new ≡ record self.old { there = slice_set self.old.there object.0 true } }
     {
+        fill_to(&mut self.there, object.0, false);
         self.there[object.0 as usize] = true;
     }
 
     /// Whether there is an object of this number.
+    #[tactic(auto, using(crate::proofs::Padding::get_or_padded))]
     pub fn is_there(&self, object: ObjectId) -> bool
         ensures { result ≡ is_there self.now object.0 }
     {

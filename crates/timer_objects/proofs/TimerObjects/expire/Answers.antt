@@ -25,30 +25,30 @@ returns-in_err-due-clause-done c =
 
 pub index-pace-requires : goal.index-pace-requires
 index-pace-requires c =
-    omega (arith, first_paced _ _ _ _ _ _ _ c.self.invariant c.in_ok-due.ensures.distinct (sym c.in_ok-due.ensures.first))
+    omega (arith, first_paced _ _ _ _ _ _ _ _ c.self.invariant c.in_ok-due.ensures.distinct (sym c.in_ok-due.ensures.first))
 
 pub set-requires : goal.set-requires
 set-requires c =
-    rw c.pop_due.ensures.after (first_within _ _ _ _ _ _ _ c.self.invariant c.in_ok-due.ensures.distinct (sym c.in_ok-due.ensures.first))
+    rw c.pop_due.ensures.after (first_within _ _ _ _ _ _ _ _ c.self.invariant c.in_ok-due.ensures.distinct (sym c.in_ok-due.ensures.first))
 
 pub overflow_add-result : goal.overflow_add-result
 overflow_add-result c =
-    omega (arith, c.self.invariant.fits, first_within _ _ _ _ _ _ _ c.self.invariant c.in_ok-due.ensures.distinct (sym c.in_ok-due.ensures.first))
+    omega (arith, c.self.invariant.fits, first_within _ _ _ _ _ _ _ _ c.self.invariant c.in_ok-due.ensures.distinct (sym c.in_ok-due.ensures.first))
 
 pub invariant_of-self-then-pace-gt0 : goal.invariant_of-self-then-pace-gt0
 invariant_of-self-then-pace-gt0 c =
-    kept_set _ _ _ _ (kept_popped _ _ _ _ _ _ c.self.invariant c.pop_due.ensures.after) _ _ _ _
-    (first_alive _ _ _ _ _ _ _ c.self.invariant c.in_ok-due.ensures.distinct (sym c.in_ok-due.ensures.first))
+    kept_set _ _ _ _ _ (kept_popped _ _ _ _ _ _ _ c.self.invariant c.pop_due.ensures.after) _ _ _ _
+    (first_alive _ _ _ _ _ _ _ _ c.self.invariant c.in_ok-due.ensures.distinct (sym c.in_ok-due.ensures.first))
     c.set.ensures.after refl
-    (first_paced _ _ _ _ _ _ _ c.self.invariant c.in_ok-due.ensures.distinct (sym c.in_ok-due.ensures.first))
+    (first_paced _ _ _ _ _ _ _ _ c.self.invariant c.in_ok-due.ensures.distinct (sym c.in_ok-due.ensures.first))
 
 pub invariant_of-self-else-pace-gt0 : goal.invariant_of-self-else-pace-gt0
-invariant_of-self-else-pace-gt0 c = kept_popped _ _ _ _ _ _ c.self.invariant c.pop_due.ensures.after
+invariant_of-self-else-pace-gt0 c = kept_popped _ _ _ _ _ _ _ c.self.invariant c.pop_due.ensures.after
 
 after : (c : goal.Joined-pace-gt0) → ◌≡◌ {A = Timers} c.if-pace-gt0.self (record c.args.self.now { settings = after_first c.args.now c.args.self.now.settings })
 after c =
     let is = popped _ _ _ _ c.in_ok-due.ensures.distinct (sym c.in_ok-due.ensures.first) in
-    let pace = first_pace _ _ _ _ _ _ _ c.self.invariant c.in_ok-due.ensures.distinct (sym c.in_ok-due.ensures.first) c.index-pace.result.now c.index-pace.ensures in
+    let pace = first_pace _ _ _ _ _ _ _ _ c.self.invariant c.in_ok-due.ensures.distinct (sym c.in_ok-due.ensures.first) c.index-pace.result.now c.index-pace.ensures in
     elim c.if-pace-gt0.branch [
       | then-pace-gt0 w ↦
           let shown = shown_back c.self.inside.paces.items _ _ _ _ is w.next_due.result (rw pace w.if-pace-gt0.true) (rw pace w.next_due.ensures.value) in
