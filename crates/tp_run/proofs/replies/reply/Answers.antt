@@ -1,13 +1,13 @@
 use Rattle.std.proofs.Common.{sym, subst}
 use Rattle.tp_run.specs.Ends.{IsOutput, IsReply}
-use Rattle.tp_run.proofs.Checked.{output_of_verdict, reply_of_fault}
+use Rattle.tp_run.proofs.Checked.{check_of_fault, output_of_verdict}
 use Rattle.tp_run.proofs.Scripted.{big_output, one_of, run_reply}
 use Rattle.tp_run.proofs.replies.reply.Goals as goal
 
 pub returns-in_err-verdict-in-Check : goal.returns-in_err-verdict-in-Check
 returns-in_err-verdict-in-Check g c =
     subst (λ k. IsReply k c.args.bytes.now c.from_residual-in_err-verdict-in-Check.result) (sym c.in-Check.is)
-    (reply_of_fault c.args.bytes.now c.in_err-verdict-in-Check.field-0.0 c.from_residual-in_err-verdict-in-Check.result c.from_residual-in_err-verdict-in-Check.ensures.1
+    (check_of_fault c.args.bytes.now c.in_err-verdict-in-Check.field-0.0 c.from_residual-in_err-verdict-in-Check.result c.from_residual-in_err-verdict-in-Check.ensures.1
     c.in_err-verdict-in-Check.ensures.err c.in_err-verdict-in-Check.ensures.only)
 
 pub returns-in_ok-output_of-in-Check : goal.returns-in_ok-output_of-in-Check
