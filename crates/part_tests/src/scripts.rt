@@ -297,12 +297,12 @@ const LIMITS: [(u32, &str, &str, &str, &str, &str); 5] = [
     (63, "", "pool p", "\n", "", "64 6 TooMany"),
     (255, "", "group g", "\n", "", "256 7 TooMany"),
     (
-        4_095,
+        65_535,
         "",
         "timer t",
         " r\n",
         "routine r\ndone\n",
-        "4096 7 TooMany",
+        "65536 7 TooMany",
     ),
     (1_024, "", "section s", "\n", "", "1025 9 TooMany"),
     (
