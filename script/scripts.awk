@@ -7,7 +7,7 @@ BEGIN {
         "close-group close-pool set-maximum set-minimum set-event reset-event release-semaphore release acquire advance times " \
         "may-run-long disassociate on-return"
     with_options = "work timer wait io let simple"
-    options = "context in priority long group cancel"
+    options = "context in priority long persistent group cancel"
     title["work"] = "work object"
     title["timer"] = "timer"
     title["wait"] = "wait object"

@@ -121,7 +121,7 @@ function tally(head) {
     return has(sorts["OBJECT"], head) ? "object" : has(sorts["KERNEL"], head) ? "kernel" : head
 }
 function limit(of) {
-    return of == "pool" ? 63 : of == "group" ? 255 : of == "object" ? 4095 : of == "kernel" ? 1024 : 65535
+    return of == "pool" ? 63 : of == "group" ? 255 : of == "kernel" ? 1024 : 65535
 }
 
 # The kind of the fault at a word, where `expected` has the fields that may stand there.

@@ -197,7 +197,7 @@ long_name=abcdefghijklmnopqrstuvwxyz_123456
     bad_script 1 8 $'work w nothere\n' 'no routine is called `nothere`'
     bad_script 2 6 $'pool p\npool p\n' '`p` stands already, as the name of a pool in line 1'
     bad_script 4 8 "${routine}"$'client\nsubmit r\ndone\n' '`r` is a routine by line 1, and the name of a work object stands here'
-    bad_script 2 15 $'group g\nwork w r long in p group g\n'"$routine" 'the options stand in this order, and each once: context in priority long group cancel'
+    bad_script 2 15 $'group g\nwork w r long in p group g\n'"$routine" 'the options stand in this order, and each once: context in priority long persistent group cancel'
     bad_script 3 1 $'client\nadvance 1\n' 'the script ends, and the `done` of the client in line 1 is missing'
     bad_script 4 1 $'work w r\nroutine r\n\nclient\ndone\n' 'the `done` of the routine in line 2 is missing'
     bad_script 1 1 $'pool\tp\n' 'a tab: words are separated by spaces'

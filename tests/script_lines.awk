@@ -3,7 +3,7 @@
 # `choices`, `most` and `sorts` have what may stand for it. Operations may be repeated by `times`.
 
 BEGIN {
-    options = "[ context LARGE ] [ in POOL ] [ priority PRIORITY ] [ long ] [ group GROUP [ cancel ROUTINE ] ]"
+    options = "[ context LARGE ] [ in POOL ] [ priority PRIORITY ] [ long ] [ persistent ] [ group GROUP [ cancel ROUTINE ] ]"
     choices["KIND"] = "work timer wait io"
     choices["PRIORITY"] = "high normal low"
     choices["HOW"] = "keep cancel"

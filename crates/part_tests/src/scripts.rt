@@ -193,6 +193,17 @@ work w r long long
 routine r
 done
 --
+1 21 Unexpected
+work w r persistent long
+routine r
+done
+--
+2 18 Unexpected
+group g
+work w r group g persistent
+routine r
+done
+--
 1 6 Unexpected
 work none r
 --
@@ -297,12 +308,12 @@ const LIMITS: [(u32, &str, &str, &str, &str, &str); 5] = [
     (63, "", "pool p", "\n", "", "64 6 TooMany"),
     (255, "", "group g", "\n", "", "256 7 TooMany"),
     (
-        4_095,
+        65_535,
         "",
         "timer t",
         " r\n",
         "routine r\ndone\n",
-        "4096 7 TooMany",
+        "65536 7 TooMany",
     ),
     (1_024, "", "section s", "\n", "", "1025 9 TooMany"),
     (
@@ -368,8 +379,8 @@ pool p max 3 min 1
 group g
 event stop manual clear
 work request serve in p group g cancel dropped
-timer beat tick in p priority high group g cancel dropped
-wait halt stopped in p group g cancel dropped
+timer beat tick in p priority high persistent group g cancel dropped
+wait halt stopped in p long persistent group g cancel dropped
 routine serve
   may-run-long
   let more work dropped context 9 long
@@ -404,8 +415,8 @@ c1 set-minimum 1 1 -> ok
 c1 create-group -> made 1
 c1 create-event manual clear -> made 1
 c1 create work r1 x0 p1 normal short g1 q4 -> made 1
-c1 create timer r2 x0 p1 high short g1 q4 -> made 2
-c1 create wait r3 x0 p1 normal short g1 q4 -> made 3";
+c1 create timer r2 x0 p1 high persistent g1 q4 -> made 2
+c1 create wait r3 x0 p1 normal persistent-long g1 q4 -> made 3";
 
 const REQUESTS: &str = "c2 submit 1 -> queued 1 1
 c2 submit 1 -> refused released";

@@ -38,6 +38,7 @@ blank = record {
   kind = kind.Work;
   priority = priority.Normal;
   long = false;
+  persistent = false;
   cancels = false;
   manual = false;
   signalled = false;
@@ -63,6 +64,7 @@ with_head line head = record line { head = head; kind = kind_in head line.kind; 
 
 abbrev pub put_word : Line → Word → Line
 put_word line word.Long = record line { long = true }
+put_word line word.Persistent = record line { persistent = true }
 put_word line word.Maximum = record line { maximum = true }
 put_word line word.Minimum = record line { minimum = true }
 put_word line (word.Kind kind) = record line { kind = kind }

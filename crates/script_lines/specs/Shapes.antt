@@ -60,7 +60,8 @@ shape_of word.Context = record { class = class.Option 1; text = codes "context";
 shape_of word.In = record { class = class.Option 2; text = codes "in"; fields = field.Name want.Pool ∷ field.Options 3 ∷ [] }
 shape_of word.OfPriority = record { class = class.Option 3; text = codes "priority"; fields = field.Priority ∷ field.Options 4 ∷ [] }
 shape_of word.Long = record { class = class.Option 4; text = codes "long"; fields = field.Options 5 ∷ [] }
-shape_of word.InGroup = record { class = class.Option 5; text = codes "group"; fields = field.Name want.Group ∷ field.CancelOption ∷ [] }
+shape_of word.Persistent = record { class = class.Option 5; text = codes "persistent"; fields = field.Options 6 ∷ [] }
+shape_of word.InGroup = record { class = class.Option 6; text = codes "group"; fields = field.Name want.Group ∷ field.CancelOption ∷ [] }
 shape_of word.CancelBy = record { class = class.Cancel; text = codes "cancel"; fields = field.Routine ∷ [] }
 shape_of word.Maximum = record { class = class.PoolOption 1; text = codes "max"; fields = field.Small ∷ field.PoolOptions 2 ∷ [] }
 shape_of word.Minimum = record { class = class.PoolOption 2; text = codes "min"; fields = field.Small ∷ [] }
@@ -86,6 +87,6 @@ all_words =
     word.Routine ∷ word.Client ∷ word.Done ∷ word.Submit ∷ word.Simple ∷ word.SetTimer ∷ word.SetTimerEx ∷ word.IsTimerSet ∷ word.SetWait ∷ word.StartIo ∷ word.CancelIo ∷
     word.IssueIo ∷ word.CompleteIo ∷ word.Let ∷ word.Close ∷ word.BeginWait ∷ word.CloseMembers ∷ word.CloseGroup ∷ word.ClosePool ∷ word.SetMaximum ∷ word.SetMinimum ∷
     word.SetEvent ∷ word.ResetEvent ∷ word.ReleaseSemaphore ∷ word.Release ∷ word.Acquire ∷ word.Advance ∷ word.MayRunLong ∷ word.Disassociate ∷ word.OnReturn ∷ word.Times ∷
-    word.Context ∷ word.In ∷ word.OfPriority ∷ word.Long ∷ word.InGroup ∷ word.CancelBy ∷ word.Maximum ∷ word.Minimum ∷ word.Kind kind.Work ∷ word.Kind kind.Timer ∷
+    word.Context ∷ word.In ∷ word.OfPriority ∷ word.Long ∷ word.Persistent ∷ word.InGroup ∷ word.CancelBy ∷ word.Maximum ∷ word.Minimum ∷ word.Kind kind.Work ∷ word.Kind kind.Timer ∷
     word.Kind kind.Wait ∷ word.Kind kind.Io ∷ word.Priority priority.High ∷ word.Priority priority.Normal ∷ word.Priority priority.Low ∷ word.How true ∷ word.How false ∷
     word.Reset true ∷ word.Reset false ∷ word.Signal true ∷ word.Signal false ∷ []

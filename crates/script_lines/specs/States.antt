@@ -3,6 +3,7 @@ use Rattle.std.specs.Prelude.{ℕ, ◌+◌, Bool, true, false, nat_lt, if◌then
 use Rattle.script_lines.specs.declared.state.Place.{Place}
 use Rattle.script_lines.specs.declared.state.Place.TheVariants.{Declarations, Routines, Clients, InRoutine, InClient}
 use Rattle.script_lines.specs.declared.state.State.{State}
+use Rattle.script_lines.specs.declared.state.TheConstants.{OBJECT_LIMIT}
 use Rattle.script_lines.specs.declared.words.Tally.{Tally}
 use Rattle.script_lines.specs.declared.words.Tally.TheVariants as tally
 use Rattle.script_lines.specs.declared.words.Word.{Word}
@@ -55,7 +56,7 @@ count_of state tally.Locals = state.locals
 abbrev pub limit_of : Tally → ℕ
 limit_of tally.Pools = 63
 limit_of tally.Groups = 255
-limit_of tally.Objects = 4095
+limit_of tally.Objects = OBJECT_LIMIT
 limit_of tally.Kernels = 1024
 limit_of tally.Routines = 65535
 limit_of tally.Locals = 32
@@ -76,7 +77,7 @@ state_after state word.Event = record state { kernels = raised state.kernels 102
 state_after state word.Semaphore = record state { kernels = raised state.kernels 1024 }
 state_after state word.Mutex = record state { kernels = raised state.kernels 1024 }
 state_after state word.Section = record state { kernels = raised state.kernels 1024 }
-state_after state (word.Object kind) = record state { objects = raised state.objects 4095 }
+state_after state (word.Object kind) = record state { objects = raised state.objects OBJECT_LIMIT }
 state_after state word.Routine = record (with_section state InRoutine) { routines = raised state.routines 65535 }
 state_after state word.Client = record (with_section state InClient) { clients = raised state.clients 15 }
 state_after state word.Done = record state { place = left_place state.place }

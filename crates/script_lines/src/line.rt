@@ -37,7 +37,7 @@ pub enum Token {
     Routine(u16),
 }
 
-/// What all words of a line say. What no word says is as on a blank line: 0, once, normal, short and false.
+/// What all words of a line say. What no word says is as on a blank line: 0, once, normal, short, not persistent and false.
 #[derive(Clone, Copy)]
 pub struct Line {
     pub due: Option<i64>,
@@ -62,6 +62,7 @@ pub struct Line {
     pub kind: Kind,
     pub priority: Priority,
     pub long: bool,
+    pub persistent: bool,
     /// A wait cancels what is pending.
     pub cancels: bool,
     /// An event is reset by hand.
@@ -127,6 +128,7 @@ impl Line {
             kind: Kind::Work,
             priority: Priority::Normal,
             long: false,
+            persistent: false,
             cancels: false,
             manual: false,
             signalled: false,
@@ -185,6 +187,10 @@ impl Line {
     {
         match word {
             Word::Long => Line { long: true, ..self },
+            Word::Persistent => Line {
+                persistent: true,
+                ..self
+            },
             Word::Maximum => Line {
                 maximum: true,
                 ..self

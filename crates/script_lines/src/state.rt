@@ -6,6 +6,9 @@ ghost use Rattle.script_lines.specs.States.{count_of, first_state, is_before_cli
 use crate::line::Line;
 use crate::words::{Tally, Word};
 
+/// The most objects that a script may declare: as many as the machine has at most.
+pub const OBJECT_LIMIT: u16 = 65_535;
+
 /// The part of the script where a line stands.
 #[derive(Clone, Copy)]
 pub enum Place {
@@ -133,7 +136,7 @@ impl State {
                 ..self
             },
             Word::Object(_) => State {
-                objects: raised(self.objects, 4_095),
+                objects: raised(self.objects, OBJECT_LIMIT),
                 ..self
             },
             Word::Routine => State {
@@ -177,7 +180,7 @@ pub fn limit_of(tally: Tally) -> u16
     match tally {
         Tally::Pools => 63,
         Tally::Groups => 255,
-        Tally::Objects => 4_095,
+        Tally::Objects => OBJECT_LIMIT,
         Tally::Kernels => 1_024,
         Tally::Routines => 65_535,
         Tally::Locals => 32,

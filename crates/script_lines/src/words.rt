@@ -179,6 +179,7 @@ pub enum Word {
     In,
     OfPriority,
     Long,
+    Persistent,
     InGroup,
     CancelBy,
     Maximum,
@@ -240,7 +241,8 @@ macro_rules! words {
             (Word::In) (Class::Option(2)) b"in" [Field::Name(Want::Pool), Field::Options(3)];
             (Word::OfPriority) (Class::Option(3)) b"priority" [Field::Priority, Field::Options(4)];
             (Word::Long) (Class::Option(4)) b"long" [Field::Options(5)];
-            (Word::InGroup) (Class::Option(5)) b"group" [Field::Name(Want::Group), Field::CancelOption];
+            (Word::Persistent) (Class::Option(5)) b"persistent" [Field::Options(6)];
+            (Word::InGroup) (Class::Option(6)) b"group" [Field::Name(Want::Group), Field::CancelOption];
             (Word::CancelBy) (Class::Cancel) b"cancel" [Field::Routine];
             (Word::Maximum) (Class::PoolOption(1)) b"max" [Field::Small, Field::PoolOptions(2)];
             (Word::Minimum) (Class::PoolOption(2)) b"min" [Field::Small];
@@ -276,7 +278,7 @@ macro_rules! all_words {
 }
 
 /// All words.
-pub static WORDS: [Word; 62] = words!(all_words, ());
+pub static WORDS: [Word; 63] = words!(all_words, ());
 
 // What is known of a word.
 struct Known {

@@ -62,7 +62,7 @@ armed_by line = if nat_eq line.kernel.number 0 then None else Some (kernel_of li
 abbrev pub routine_by : Line → RoutineId
 routine_by line = record { 0 = routine_number line.routine }
 
--- the cancel routine is the group's; no script asks for persistent callbacks
+-- the cancel routine is the group's
 abbrev pub environ_by : Line → Environ
 environ_by line = record {
   pool = record { 0 = line.pool };
@@ -70,7 +70,7 @@ environ_by line = record {
   cancel = record { 0 = if nat_eq line.group 0 then 0 else line.cancel };
   priority = line.priority;
   long = line.long;
-  persistent = false;
+  persistent = line.persistent;
 }
 
 abbrev pub kind_of_sort : Sort → Kind

@@ -294,7 +294,7 @@ fn group_of(number: u16) -> GroupId
     GroupId(u32::from(number))
 }
 
-// Without a group there is no cancel routine, and no script asks for persistent callbacks.
+// Without a group there is no cancel routine.
 fn environ_by(line: Line) -> Environ
     ensures value { result ≡ environ_by line }
     ensures in_range { IsEnvironInRange result }
@@ -309,7 +309,7 @@ fn environ_by(line: Line) -> Environ
         }),
         priority: line.priority,
         long: line.long,
-        persistent: false,
+        persistent: line.persistent,
     }
 }
 
