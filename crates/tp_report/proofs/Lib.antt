@@ -1,4 +1,5 @@
 pub mod Alike
+pub mod Clock
 pub mod Deciding
 pub mod EndedFacts
 mod Examples
