@@ -36,11 +36,11 @@ find_cause() {
     run*:1:1:[cw][0-9]*) cause='this is a trace: ./tpool trace plays it' ;;
     run*) cause=$(find_in_script "$line" "$column") ;;
     check:1:1:[cw][0-9]*) cause='this is a trace: ./tpool trace reads it, and ./tpool history makes a history of it' ;;
-    check:*:1:[cw0-9]*) cause=$(find_moment "$rest") ;;
     *:*:*:[#\;]* | *:*:*:\ [#\;]* | *:*:*:'//'* | *:*:*:' //'* | *:*:*:'--'* | *:*:*:' --'*)
         cause='there are no comments, but in scripts, which ./tpool run plays'
         ;;
     *:1:[12]:*) ! is_script || cause='this is a script, it seems: ./tpool run plays it' ;;&
+    check:*:1:[cw0-9]*) cause=${cause:-$(find_moment "$rest")} ;;
     trace:*:*:' -> '*) cause='an answer stands here, as in a history: ./tpool check reads those' ;;
     *) cause=${cause:-$(find_meant "$line" "$column")} ;;
     esac
