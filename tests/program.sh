@@ -264,7 +264,9 @@ c2 end -> ended
 c2 finish -> ok
 end 9
 entries 9\n'
-migrate_twice() { "$program" migrate >"$room/migrated" && "$program" migrate <"$room/migrated" | cmp - "$room/migrated" && "$program" check <"$room/migrated"; }
+migrate_twice() {
+    "$program" migrate >"$room/once" && "$program" migrate <"$room/once" >"$room/twice" && cmp "$room/once" "$room/twice" && "$program" check <"$room/twice"
+}
 try 'a history that is migrated twice' 0 $'legal 9\n' '' migrate_twice
 
 input=$'history 1 clients 0 workers 1 events 16\nend 0\nand more'
