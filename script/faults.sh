@@ -32,6 +32,7 @@ find_cause() {
     rest=$(rest_of_line "$line" "$column" 60)
     case $command:$line:$column:$rest in
     trace:1:1:'history '* | run*:1:1:'history '*) cause='this is a history: ./tpool check reads it' ;;
+    history:1:1:'history '*) cause='this is a history: ./tpool check reads it, and ./tpool migrate writes it in format 2' ;;
     run*:1:1:[cw][0-9]*) cause='this is a trace: ./tpool trace plays it' ;;
     run*) cause=$(find_in_script "$line" "$column") ;;
     check:1:1:[cw][0-9]*) cause='this is a trace: ./tpool trace reads it, and ./tpool history makes a history of it' ;;
@@ -39,6 +40,7 @@ find_cause() {
         cause='there are no comments, but in scripts, which ./tpool run plays'
         ;;
     *:1:[12]:*) ! is_script || cause='this is a script, it seems: ./tpool run plays it' ;;&
+    check:*:1:[cw0-9]*) cause=${cause:-$(find_moment "$rest")} ;;
     trace:*:*:' -> '*) cause='an answer stands here, as in a history: ./tpool check reads those' ;;
     *) cause=${cause:-$(find_meant "$line" "$column")} ;;
     esac
@@ -59,6 +61,15 @@ find_coding() {
     fi
 }
 
+# What is wrong with an entry of a history whose first byte can't stand there.
+find_moment() {
+    case $(rest_of_line 1 1 9)$1 in
+    'history 1'[0-9]*) echo 'a moment stands here, and histories of format 1 have none' ;;
+    'history 2'[cw]*) echo 'the moment is missing, which in format 2 stands before each entry' ;;
+    'history '[12]*) echo 'there are as many entries as the first line has room for: the end line stands here' ;;
+    esac
+}
+
 # Finds what the byte at the fault's place may mean.
 find_byte() {
     local byte before
@@ -67,13 +78,22 @@ find_byte() {
     cause=$(name_byte "${byte// /}" "$1" "$2" "$before" "$3")
 }
 
+# What some parts of awk make of the call of line $1 that is bad at column $2, and of the headings. A moment that stands
+# before the call is passed.
+from_actor_on() {
+    local moment=0
+    [[ $command != check || ! $(rest_of_line "$1" 1 20) =~ ^[0-9]+' ' ]] || moment=${#BASH_REMATCH}
+    rest_of_line "$1" $((moment + 1)) $(($2 + 99 - moment)) |
+        LC_ALL=C awk -v column=$(($2 - moment)) -f "$home/script/headings.awk" "${@:3}" - "$pages" 2>/dev/null
+}
+
 # Finds what the line of the call looks like, and which of its words is missing, if the line ends too early.
 find_form() {
     local word what=line
     {
         read -r word
         IFS= read -r form
-    } < <(rest_of_line "$1" 1 $(($2 + 99)) | LC_ALL=C awk -v column="$2" -f "$home/script/headings.awk" -f "$home/script/form.awk" - "$pages" 2>/dev/null)
+    } < <(from_actor_on "$1" "$2" -f "$home/script/form.awk")
     [[ $(rest_of_line "$1" "$2" 1) != [-\ ] ]] || what=call
     [[ -z $word || -z $form ]] || cause="the $what ends here, and $word is missing"
 }
@@ -85,7 +105,7 @@ is_script() {
 
 # The word that is meant by one that is none, if one is near.
 find_meant() {
-    rest_of_line "$1" 1 $(($2 + 99)) | LC_ALL=C awk -v column="$2" -f "$home/script/headings.awk" -f "$home/script/distance.awk" -f "$home/script/meant.awk" - "$pages" 2>/dev/null
+    from_actor_on "$1" "$2" -f "$home/script/distance.awk" -f "$home/script/meant.awk"
 }
 
 # A likely cause of a fault in a script, from all of its lines.
@@ -120,7 +140,7 @@ show_wrong_answer() {
         printf '%s%d:1: %s\n    the history says: moment %s\n    it should be: %s\n' "$origin" "$line" "$text" "${text%% *}" "$2" >&2
         return
     fi
-    why=$(history_again | awk -v wrong="$1" -v said="$2" -f "$home/script/about.awk" -f "$home/script/why.awk")
+    why=$(input_again | awk -v wrong="$1" -v said="$2" -f "$home/script/entries.awk" -f "$home/script/about.awk" -f "$home/script/why.awk")
     printf '%s%d:%d: %s\n    the history says: %s\n    the machine says: %s\n' \
         "$origin" "$line" $((${#call} + 5)) "$call" "${text#* -> }" "$why" >&2
 }

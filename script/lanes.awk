@@ -12,9 +12,9 @@ over { below[++behind] = $0; next }
 /^end / { over = 1; next }
 
 {
-    cut = index($0, " -> ")
-    calls[++count] = substr($0, 1, cut - 1)
-    answers[count] = substr($0, cut + 4)
+    read_entry($0)
+    calls[++count] = entry_call
+    answers[count] = entry_answer
     learn_names(calls[count], answers[count])
 }
 

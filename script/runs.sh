@@ -19,8 +19,8 @@ play_runs() {
     for ((share = 1; share <= shares; share++)); do
         mkdir "$room/share-$share"
         play_share "$share" |
-            folder=$room/share-$share awk -f "$home/script/about.awk" -f "$home/script/ring.awk" -f "$home/script/names.awk" \
-                -f "$home/script/runs.awk" "$room/script" - >"$room/told-$share" 2>/dev/null &
+            folder=$room/share-$share awk -f "$home/script/entries.awk" -f "$home/script/about.awk" -f "$home/script/ring.awk" \
+                -f "$home/script/names.awk" -f "$home/script/runs.awk" "$room/script" - >"$room/told-$share" 2>/dev/null &
     done
     until wait; do :; done
     trap - INT

@@ -5,9 +5,9 @@ NR == 1 { clients = $4; options = ($6 == workers ? "" : " --workers " $6) ($8 ==
 /^end / { exit }
 
 {
-    call = substr($0, 1, index($0, " -> ") - 1)
-    if (call ~ /^c/ && substr($1, 2) + 0 > greatest) greatest = substr($1, 2) + 0
-    print call
+    read_entry($0)
+    if (entry_call ~ /^c/ && substr(entry_call, 2) + 0 > greatest) greatest = substr(entry_call, 2) + 0
+    print entry_call
 }
 
 END {

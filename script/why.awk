@@ -2,10 +2,6 @@
 
 NR == 1 { workers = $6; next }
 
-{
-    cut = index($0, " -> ")
-    text = substr($0, 1, cut - 1)
-}
-
-NR == wrong + 1 { print said about(text, said); exit }
-{ about(text, substr($0, cut + 4)) }
+{ read_entry($0) }
+NR == wrong + 1 { print said about(entry_call, said); exit }
+{ about(entry_call, entry_answer) }

@@ -69,6 +69,7 @@ fail_commands() {
     local streams='read write short-read short-write'
     input=$(<"$here/examples/shutdown.trace")$'\n'
     fail_all 'a trace' "memory $streams" "$program" trace
+    fail_all 'the history of a trace' "memory $streams" "$program" history
     PIECE=16 fail_all 'a trace in pieces' 'read write' "$program" trace
     input=$'c1 submit 01\n'
     fail_all 'a bad line' "memory $streams" "$program" trace
@@ -76,6 +77,8 @@ fail_commands() {
     fail_all 'a legal history' "memory $streams" "$program" check
     input=${input/made 1/made 2}
     fail_all 'a history that is not legal' "memory $streams" "$program" check
+    input=$(<"$here/examples/old.history")$'\n'
+    fail_all 'a history that is migrated' "memory $streams" "$program" migrate
     input=$'work w r\nroutine r\ndone\nclient\nsubmit w\nwait w keep\ndone\n'
     fail_all 'a run' "memory $streams" "$program" run --events 64
     fail_all 'a run, told as JSON' 'memory write short-write' "$program" run --events 64 --json

@@ -3,7 +3,7 @@
 
 input=
 for words in '' 'foo' 'trac' 'traced' 'tra ce' 'trace trace' 'Trace' ''$'\xff' 'runs' 'run run' 'run 7' '-h' '--help' '--version' \
-    'gen' 'gen 07' 'gen +7' 'gen -- -7' 'gen 7 7' 'gen 18446744073709551616' 'big' 'big 07' 'big 7 7' 'trace 7' 'check 7' 'trace -' \
+    'gen' 'gen 07' 'gen +7' 'gen -- -7' 'gen 7 7' 'gen 18446744073709551616' 'big' 'big 07' 'big 7 7' 'trace 7' 'check 7' 'migrate 7' 'trace -' \
     'run --threads 0' 'run --threads 17' 'run --workers 65' 'run --events 15' 'run --threads' 'run --threads 1 --threads 1' 'big 7 --threads 0' \
     'trace --workers' 'trace --workers=' 'trace --workers 0' 'trace --workers 65' 'trace --workers 04' 'trace --workers -4' \
     'trace --workers -- 4' 'trace --worker 4' 'trace --workers 4 --workers=4' 'trace --threads 17' 'gen 7 --threads=0' \
@@ -19,7 +19,7 @@ for words in 'trace --json' '--json trace' 'trace --' '-- trace' '--workers 4 tr
     # shellcheck disable=SC2086
     try "good words: '$words'" 0 '' '' "$program" $words
 done
-set_up_alone=$'history 1 clients 1 workers 1 events 16\nc1 finish -> ok\nend 1\nentries 1\ncallbacks 0\ntaken 0\ncancelled 0\nleft 0\nrefused 0\n'
+set_up_alone=$'history 2 clients 1 workers 1 events 16 objects 65535\n0 c1 finish -> ok\nend 1\nentries 1\ncallbacks 0\ntaken 0\ncancelled 0\nleft 0\nrefused 0\n'
 for words in '--workers 1 run --events=16' 'run --threads=16 --workers 1 --events 16' '--workers=1 --events=16 -- run' \
     '--seed 0 run --workers 1 --events 16' 'run --seed=18446744073709551615 --threads 1 --workers 1 --events=16'; do
     # shellcheck disable=SC2086
@@ -115,6 +115,15 @@ try 'a client far behind' 0 $'9000 refused not-attached\n1 ok\n' '' far_client
 try 'an armed wait in the last slot' 0 $'queued 0 0\nrefused callback-limit\nqueued 0 0\nqueued 8192 1\nrefused callback-limit\n' '' last_slot
 try 'memory is refused' 5 '' $'tpool: want of memory\n' short_of_memory
 
+# The program's machine has 65,535 objects at most.
+last_objects() {
+    {
+        yes 'c1 create work r1 x0 p0 normal short g0 q0' | head -n 65536
+        echo 'c1 submit 65535'
+    } | "$program" trace --events 131072 | tail -n 3
+}
+try 'the last object' 0 $'made 65535\nrefused object-limit\nqueued 1 1\n' '' last_objects
+
 # Each file is a trace, with what each call comes to behind ` -> `.
 for trace in "$here/tests/traces"/*; do
     input=$(sed 's/ -> .*//' "$trace")$'\n'
@@ -208,10 +217,10 @@ mapfile -t five < <(for number in 1 2 3 4 5; do echo "0 c1 ${create/made 1/made 
 timed 'five objects of five' 'legal 6' 5 "${five[@]}" "0 c1 ${create/made 1/refused object-limit}"
 timed 'five objects of six' 'not legal at 6: made 6' 6 "${five[@]}" "0 c1 ${create/made 1/refused object-limit}"
 
-# The history of a trace with the moments that its answers tell, or with another one at a place.
+# The history of a trace with the moments that its answers tell, or with another one at a place, written apart.
 timed_history() {
     paste -d '|' "$1" <("$program" trace <"$1") | awk -F '|' -v changed="$2" '
-        BEGIN { print "history 2 clients 1 workers 4 events 65536 objects 4095" }
+        BEGIN { print "history 2 clients 1 workers 4 events 65536 objects 65535" }
         $2 !~ /^(look|full) / {
             split($1, call, " ")
             split($2, answer, " ")
@@ -231,8 +240,34 @@ right_moments() { timed_history "$1" 0 | sed '1d;$d' | awk '{ print "not legal a
 for name in kind-timer kind-wait; do
     input=$(timed_history "$here/examples/$name.trace" 0)$'\n'
     try "$name with moments" 0 '~legal *' '' "$program" check
+    try "$name, its history" 0 "$input" '' on "$here/examples/$name.trace" "$program" history
     try "$name, a wrong moment at each place" 7 "$(right_moments "$here/examples/$name.trace")"$'\n' '' each_moment "$here/examples/$name.trace"
 done
+
+# --- Histories in format 2
+input=$'history 1 clients 1 workers 4 events 65536\nc1 create work r1 x7 p0 normal short g0 q0 -> made 1\nc1 submit 1 -> queued 1 1\nend 2\n'
+migrated=$'history 2 clients 1 workers 4 events 65536 objects 4095\n0 c1 create work r1 x7 p0 normal short g0 q0 -> made 1\n0 c1 submit 1 -> queued 1 1\nend 2\n'
+try 'a history is migrated' 0 "$migrated" '' "$program" migrate
+input=${input/queued 1/queued 2}
+try 'one that is not legal is not' 7 $'not legal at 2: queued 1 1\n' '' "$program" migrate
+input=${migrated/0 c1 submit/1 c1 submit}
+try 'one with a wrong moment is not' 7 $'not legal at 2: moment 0\n' '' "$program" migrate
+input=$'history 1 clients 2 workers 1 events 65536
+c1 create work r1 x0 p0 normal short g0 q0 -> made 1
+c1 finish -> ok
+c2 submit 1 -> queued 1 1
+w1 attach -> attached 0
+c2 wait work 1 keep -> begun 1 0
+w1 take -> taken 1 o1 r1 x0 plain
+w1 return -> returned - - - - 0 0
+c2 end -> ended
+c2 finish -> ok
+end 9
+entries 9\n'
+migrate_twice() {
+    "$program" migrate >"$room/once" && "$program" migrate <"$room/once" >"$room/twice" && cmp "$room/once" "$room/twice" && "$program" check <"$room/twice"
+}
+try 'a history that is migrated twice' 0 $'legal 9\n' '' migrate_twice
 
 input=$'history 1 clients 0 workers 1 events 16\nend 0\nand more'
 try 'what stands behind the end line is ignored' 0 $'legal 0\n' '' "$program" check

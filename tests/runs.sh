@@ -8,20 +8,20 @@ without_last_byte() { head -c -1 | "$@"; }
 
 # --- One thread, whose history is told beforehand: the clients and the workers have turns one after another
 alone=$'timer t tick\nroutine tick\n  may-run-long\ndone\nclient\n  set-timer t 0 0 0\n  wait t keep\n  close t\n  wait t keep\ndone\n'
-alone_history='history 1 clients 2 workers 1 events 65536
-c1 create timer r1 x0 p0 normal short g0 q0 -> made 1
-c1 finish -> ok
-c2 set-timer 1 0 0 0 -> queued 1 1
-w1 attach -> attached 0
-c2 wait timer 1 keep -> begun 1 0
-w1 take -> taken 1 o1 r1 x0 plain
-w1 may-run-long -> flag no
-w1 return -> returned - - - - 0 0
-c2 end -> ended
-c2 close timer 1 -> freed
-w1 detach -> ok
-c2 wait timer 1 keep -> refused released
-c2 finish -> ok
+alone_history='history 2 clients 2 workers 1 events 65536 objects 65535
+0 c1 create timer r1 x0 p0 normal short g0 q0 -> made 1
+0 c1 finish -> ok
+0 c2 set-timer 1 0 0 0 -> queued 1 1
+0 w1 attach -> attached 0
+0 c2 wait timer 1 keep -> begun 1 0
+0 w1 take -> taken 1 o1 r1 x0 plain
+0 w1 may-run-long -> flag no
+0 w1 return -> returned - - - - 0 0
+0 c2 end -> ended
+0 c2 close timer 1 -> freed
+0 w1 detach -> ok
+0 c2 wait timer 1 keep -> refused released
+0 c2 finish -> ok
 end 13
 '
 alone_summary=$'entries 13\ncallbacks 1\ntaken 1\ncancelled 0\nleft 0\nrefused 1\n'
@@ -43,20 +43,20 @@ try 'its history is legal' 0 $'legal 13\n' '' run_and check --workers 1 "$room/a
 # --- A history without room, and what a wait comes to there
 input=$'work w r\nroutine r\ndone\nclient\n  times 40 submit w\n  wait w keep\ndone\n'
 full_run() { "$program" run --events 16 "$@" | awk '/^end / || /^left / { print } / -> exhausted$/ { print "exhausted" }'; }
-try 'a history without room for a script' 8 '~history 1 clients 2 workers 4 events 16'$'\n*' $'tpool: history exhausted\n' "$program" run --events 16
-try 'the same from the script' 8 '~history 1 clients 2 workers 4 events 16'$'\n*' $'tpool: history exhausted\n' "$tpool" run --events=16
+try 'a history without room for a script' 8 '~history 2 clients 2 workers 4 events 16 objects 65535'$'\n*' $'tpool: history exhausted\n' "$program" run --events 16
+try 'the same from the script' 8 '~history 2 clients 2 workers 4 events 16 objects 65535'$'\n*' $'tpool: history exhausted\n' "$tpool" run --events=16
 try 'it is legal all the same' 0 '~legal *' '~*' run_and check --events 16
 try 'it is shown' 0 '~*refused *' '~*' run_and show --events 16
 printf '%s' "$input" >"$room/full.script"
 
 # --- A run in which nobody can go on
 input=$'event e manual clear\nclient\nacquire e\ndone\n'
-stalled_run='history 1 clients 2 workers 1 events 65536
-c1 create-event manual clear -> made 1
-c1 finish -> ok
-c2 acquire 1 -> ok
-c2 end -> stalled
-c2 finish -> ok
+stalled_run='history 2 clients 2 workers 1 events 65536 objects 65535
+0 c1 create-event manual clear -> made 1
+0 c1 finish -> ok
+0 c2 acquire 1 -> ok
+0 c2 end -> stalled
+0 c2 finish -> ok
 end 5
 entries 5
 callbacks 0
@@ -69,19 +69,19 @@ try 'a wait that stalls' 9 "$stalled_run" $'tpool: stalled\n' "$program" run --t
 try 'the same from the script' 9 "$stalled_run" $'tpool: stalled\n' "$tpool" run --workers 1
 try 'it is legal' 0 $'legal 5\n' '' run_and check --workers 1
 input=$'event e manual clear\nwork w r\nroutine r\nacquire e\ndone\nclient\nsubmit w\nwait w keep\ndone\n'
-stalled_worker='history 1 clients 2 workers 1 events 65536
-c1 create-event manual clear -> made 1
-c1 create work r1 x0 p0 normal short g0 q0 -> made 1
-c1 finish -> ok
-c2 submit 1 -> queued 1 1
-w1 attach -> attached 0
-c2 wait work 1 keep -> begun 1 0
-w1 take -> taken 1 o1 r1 x0 plain
-w1 acquire 1 -> ok
-c2 end -> stalled
-c2 finish -> ok
-w1 end -> stalled
-w1 return -> returned - - - - 0 0
+stalled_worker='history 2 clients 2 workers 1 events 65536 objects 65535
+0 c1 create-event manual clear -> made 1
+0 c1 create work r1 x0 p0 normal short g0 q0 -> made 1
+0 c1 finish -> ok
+0 c2 submit 1 -> queued 1 1
+0 w1 attach -> attached 0
+0 c2 wait work 1 keep -> begun 1 0
+0 w1 take -> taken 1 o1 r1 x0 plain
+0 w1 acquire 1 -> ok
+0 c2 end -> stalled
+0 c2 finish -> ok
+0 w1 end -> stalled
+0 w1 return -> returned - - - - 0 0
 end 12
 entries 12
 callbacks 1
@@ -102,7 +102,7 @@ try 'a wait that stalls, and calls without room behind it' 8 $'~*c2 end -> stall
 
 # --- A deadlock
 deadlock=$here/examples/deadlock.script
-try 'two threads and their callbacks wait for each other' 9 $'~*w2 acquire 1 -> ok\nc2 end -> stalled\nc2 release-lock mutex 1 -> ok\nw2 end -> ended\n*left 0\nrefused 0\n' $'tpool: stalled\n' "$tpool" run "$deadlock"
+try 'two threads and their callbacks wait for each other' 9 $'~*w2 acquire 1 -> ok\n0 c2 end -> stalled\n0 c2 release-lock mutex 1 -> ok\n0 w2 end -> ended\n*left 0\nrefused 0\n' $'tpool: stalled\n' "$tpool" run "$deadlock"
 mended() { sed -E '/^  wait /{N;s/(.*)\n(.*)/\2\n\1/}' "$deadlock" | "$program" run "$@"; }
 try 'each gives its lock back before it waits' 0 $'~*left 0\nrefused 0\n' '' mended
 stalls_or_not() { timeout 60 "$program" run --threads 4 <"$deadlock" >"$room/deadlock" 2>/dev/null; echo $?; "$program" check <"$room/deadlock"; }
@@ -152,6 +152,17 @@ hundred_seeds() {
 }
 try 'a hundred seeds come to different histories, each of them legal' 0 $'at least ninety\n' '' hundred_seeds
 rm -rf "$room/seeds"
+# The scripts of some numbers, each played by a seed. A run is migrated to itself.
+drawn_runs() {
+    local number
+    for number in {1..20}; do
+        "$program" gen "$number" | "$program" run --seed "$number" >"$room/drawn" || return
+        "$program" check <"$room/drawn" || return
+        "$program" migrate <"$room/drawn" >"$room/migrated" || return
+        cmp "$room/migrated" <(sed '/^end /q' "$room/drawn")
+    done | awk '!/^legal /'
+}
+try 'runs of drawn scripts are legal, and in format 2' 0 '' '' drawn_runs
 try 'the script of a file with a seed' 0 "$("$program" run --seed 7 <"$server")"$'\n' '' "$tpool" run --seed 7 "$server"
 
 # --- The long script of a number

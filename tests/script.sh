@@ -21,7 +21,7 @@ for words in '' help -h --help 'trace --help'; do
     # shellcheck disable=SC2086
     try "help: '$words'" 0 '~tpool: the Win32 thread pool as a machine*127*MACHINE.md*' '' without_rt "$tpool" $words
 done
-try 'the version' 0 '~tpool, commit *, histories of format 1, for rattle-kit-*; the program is proved and built'$'\n' '' "$tpool" --version
+try 'the version' 0 '~tpool, commit *, histories of format 2, for rattle-kit-*; the program is proved and built'$'\n' '' "$tpool" --version
 # refuses WHAT WORD..: what is said of the first bad one among the words.
 refuses() {
     try "bad words: '${*:2}'" 1 '' $'~tpool: bad words\ntpool: '"$1"$'\ntpool: usage: ./tpool *\n' "$tpool" "${@:2}"
@@ -131,6 +131,10 @@ shows trace 1 1 $'# a comment\n' 'there are no comments, but in scripts, which .
 shows trace 1 10 $'w1 attach # a comment\n' 'there are no comments, but in scripts, which ./tpool run plays'
 shows trace 1 1 "$end" 'this is a history: ./tpool check reads it'
 shows check 1 1 $'w1 attach\n' 'this is a trace: ./tpool trace reads it, and ./tpool history makes a history of it'
+shows history 1 1 "$end" 'this is a history: ./tpool check reads it, and ./tpool migrate writes it in format 2'
+shows check 2 1 "$end"$'0 c1 finish -> ok\nend 1\n' 'a moment stands here, and histories of format 1 have none'
+shows migrate 2 1 $'history 2 clients 1 workers 1 events 16 objects 9\nc1 finish -> ok\nend 1\n' 'the moment is missing, which in format 2 stands before each entry'
+shows check 18 1 "$end$(yes 'w1 take -> refused not-attached' | head -n 17)"$'\n' 'there are as many entries as the first line has room for: the end line stands here'
 shows trace 1 1 $'pool p\n' 'this is a script, it seems: ./tpool run plays it'
 shows check 1 1 $'client\n' 'this is a script, it seems: ./tpool run plays it'
 shows trace 1 10 $'w1 attach -> attached 0\n' 'an answer stands here, as in a history: ./tpool check reads those'
@@ -143,6 +147,7 @@ forms trace 1 10 $'c1 submit\n' 'the line ends here, and OBJECT is missing' 'sub
 forms trace 1 24 $'c1 create work r1 x0 p0\n' 'the line ends here, and PRIORITY is missing' 'create work ROUTINE CONTEXT ENVIRONMENT'
 forms trace 1 20 $'c1 create-event man\n' 'the line ends here, and something is missing' 'create-event RESET SIGNAL'
 forms check 2 11 "$end"$'c1 submit -> ok\nend 1\n' 'the call ends here, and OBJECT is missing' 'submit OBJECT'
+forms check 2 15 $'history 2 clients 1 workers 1 events 16 objects 9\n100 c1 submit -> ok\nend 1\n' 'the call ends here, and OBJECT is missing' 'submit OBJECT'
 shows check 2 21 "$end"$'c1 submit 1 -> queue\nend 1\n' 'the line ends here, and something is missing'
 shows trace 1 4 $'w1 \xc3\xa4\n' 'a byte that is not ASCII'
 shows trace 1 4 $'w1 \x01\n' 'a control character: the lines are plain ASCII'
@@ -186,6 +191,7 @@ input="${end}w1 take -> refused not-attached"$'\nw1 attach -> attached 0\nend 2\
 wrong=$'3:14: w1 attach\n    the history says: attached 0\n    the machine says: look no-need\n'
 try 'a wrong answer' 7 $'not legal at 2: look no-need\n' "$wrong" "$tpool" check
 try 'a wrong answer, by a pipe' 7 $'not legal at 2: look no-need\n' "$wrong" by_pipe "$tpool" check
+try 'a wrong answer of what is to be migrated' 7 $'not legal at 2: look no-need\n' "$wrong" by_pipe "$tpool" migrate
 try 'a wrong answer in a file' 7 $'not legal at 2: look no-need\n' "$room/input:$wrong" "$tpool" check "$room/input"
 input="${end}c1 create work r1 x0 p0 normal short g0 q0 -> made 1"$'\nc1 submit 1 -> queued 1 1\nw1 attach -> attached 0\nw1 take -> taken 1 o1 r1 x0 plain\nc1 wait work 1 keep -> begun 1 0\nc1 end -> ended\nend 6\n'
 why=$'7:11: c1 end\n    the history says: ended\n    the machine says: look not-yet callback 1 (object 1, w1 runs it)\n'
@@ -214,7 +220,8 @@ try 'the same by a pipe' 0 "$shown" '' by_pipe "$tpool" show
 try 'the history of a trace' 0 "$(<"$history")"$'\n' '' "$tpool" history
 input=
 try 'nothing to show' 0 '' '' "$tpool" show
-try 'the history of nothing' 0 $'history 1 clients 0 workers 4 events 65536\nend 0\n' '' "$tpool" history
+try 'the history of nothing' 0 $'history 2 clients 0 workers 4 events 65536 objects 65535\nend 0\n' '' "$tpool" history
+try 'a history of format 1 is migrated' 0 "$(sed '1s/65535$/4095/' "$history")"$'\n' '' "$tpool" migrate "$here/examples/old.history"
 again() { "$tpool" calls-of "$1" | "$tpool" trace; }
 try 'the calls of a history' 0 "$(<"$trace")"$'\n' '' "$tpool" calls-of "$history"
 try 'they are answered as they were' 0 "$answers" '' again "$history"
@@ -223,7 +230,7 @@ try 'the machine of a history is another one' 0 $'c1 finish\n' $'tpool: the same
 input=$'history 1 clients 2 workers 1 events 65536\nc1 finish\n'
 try 'the calls of what is no history' 2 '' '~tpool: bad line 2 column 10'$'\n*' "$tpool" calls-of
 input=$'c3 submit 1\nw1 attach\nc2 finish\n'
-try 'looks are no entries' 0 $'history 1 clients 3 workers 4 events 65536\nc3 submit 1 -> refused no-such\nc2 finish -> ok\nend 2\n' '' "$tpool" history
+try 'looks are no entries' 0 $'history 2 clients 3 workers 4 events 65536 objects 65535\n0 c3 submit 1 -> refused no-such\n0 c2 finish -> ok\nend 2\n' '' "$tpool" history
 try 'looks have no number of an entry' 0 $'1  1  c3 submit 1  refused no-such (object 1)\n2     w1 attach    look no-need\n3  2  c2 finish    ok\n' '' "$tpool" show
 # Each line is a call, and behind ` -> ` what `show` says of it, what it is about among that.
 of_what() { "$tpool" show <(sed 's/ -> .*//' "$here/tests/subjects") | sed 's/^.\{10\}//;s/   */ -> /'; }
@@ -236,7 +243,7 @@ for command in trace show history calls help --version; do
     try "standard output is closed: $command" 4 '' $'tpool: write fault\n' without_output "$tpool" "$command"
     try "nobody reads: $command" 4 '' '' into_closed_pipe "$tpool" "$command"
 done
-for command in trace show history check; do
+for command in trace show history check migrate; do
     try "standard input is closed: $command" 3 '' $'tpool: read fault\n' without_input "$tpool" "$command"
 done
 try 'standard error is closed' 0 "$answers" '' without_errors "$tpool" trace "$trace"
@@ -267,7 +274,7 @@ of_sixteen() { echo 'c16 submit 1' | "$tpool" trace --events 16; }
 input=$'c2 submit 1\nw5 attach\n'
 try 'a machine of another size' 0 $'refused no-such\nlook no-need\n' '' "$tpool" trace --workers 5
 try 'options before the command' 0 $'refused no-such\nlook no-need\n' '' "$tpool" --workers 5 --events=100 trace -
-try 'the history of one' 0 $'history 1 clients 2 workers 5 events 100\nc2 submit 1 -> refused no-such\nend 1\n' '' "$tpool" history --workers=5 --events 100
+try 'the history of one' 0 $'history 2 clients 2 workers 5 events 100 objects 65535\n0 c2 submit 1 -> refused no-such\nend 1\n' '' "$tpool" history --workers=5 --events 100
 try 'one is shown' 0 $'1  1  c2 submit 1  refused no-such (object 1)\n2     w5 attach    look no-need\n' '' "$tpool" show --events 100 --workers 5
 try 'a small one is full' 0 $'full 0 1\n' $'~tpool: 1 of the calls are full: *\n' of_sixteen
 for words in 'many' '"a[0]"'; do

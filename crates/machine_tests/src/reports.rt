@@ -89,16 +89,16 @@ fn a_history_is_told(rt: HostRuntime) {
     expect_text(
         &rt,
         &text,
-        "history 1 clients 2 workers 1 events 65536
-c1 create work r1 x0 p0 normal short g0 q0 -> made 1
-c1 finish -> ok
-c2 submit 1 -> queued 1 1
-w1 attach -> attached 0
-c2 wait work 1 keep -> begun 1 0
-w1 take -> taken 1 o1 r1 x0 plain
-w1 return -> returned - - - - 0 0
-c2 end -> ended
-c2 finish -> ok
+        "history 2 clients 2 workers 1 events 65536 objects 65535
+0 c1 create work r1 x0 p0 normal short g0 q0 -> made 1
+0 c1 finish -> ok
+0 c2 submit 1 -> queued 1 1
+0 w1 attach -> attached 0
+0 c2 wait work 1 keep -> begun 1 0
+0 w1 take -> taken 1 o1 r1 x0 plain
+0 w1 return -> returned - - - - 0 0
+0 c2 end -> ended
+0 c2 finish -> ok
 end 9
 ",
     );
