@@ -103,15 +103,8 @@ end 9
 ",
     );
     let verdict = expect_ok(&rt, check::<Book>(alloc, &text));
-    expect_eq(&rt, legal_len(verdict), Some(9));
+    assert!(rt; matches!(verdict, Verdict::Legal { len: 9 }));
     drop(book);
-}
-
-fn legal_len(verdict: Verdict) -> Option<u32> {
-    match verdict {
-        Verdict::Legal { len } => Some(len),
-        Verdict::NotLegal { .. } | Verdict::WrongMoment { .. } => None,
-    }
 }
 
 /// What is told stands behind what was there before.

@@ -24,10 +24,15 @@ pub fn expect_ok<T: Drop, E: Debug + Drop>(rt: &impl Abort, told: Result<T, E>) 
     }
 }
 
-/// Ends the test where the entry isn't printed as this line.
+/// Ends the test where the entry isn't printed as this line behind its moment.
 pub fn expect_line(rt: &impl Abort, alloc: Global, entry: &Entry, line: &str) {
     let mut lines = expect_ok(rt, ReservedLines::behind(Vec::new(alloc), 1));
-    lines.entry(entry.who, &entry.call, &entry.answer);
+    lines.entry(1_200, entry.who, &entry.call, &entry.answer);
     let text = lines.into_text();
-    expect_eq(rt, text.strip_suffix(b"\n"), Some(line.as_bytes()));
+    let told = text.strip_prefix(b"1200 ");
+    expect_eq(
+        rt,
+        told.and_then(|told| told.strip_suffix(b"\n")),
+        Some(line.as_bytes()),
+    );
 }

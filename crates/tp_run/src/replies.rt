@@ -142,46 +142,11 @@ fn play_turns<B: Recorded, G: Gate>(
     ensures ok { IfOk result (λ output. IsPlayedOf bytes.now 1 seed machine (whole_layout json) output.text.items output.ending) }
     ensures err { IfErr result (IsScriptEnd bytes.now) }
 {
-    match seed {
-        Some(seed) => play_text_drawn::<B, G>(alloc, bytes, seed, machine, json, gate),
-        None => play_text_alone::<B, G>(alloc, bytes, machine, json, gate),
-    }
-}
-
-// The same in rounds.
-fn play_text_alone<B: Recorded, G: Gate>(
-    alloc: Global,
-    bytes: &[u8],
-    machine: MachineSize,
-    json: bool,
-    gate: &G,
-) -> Result<Output, Status>
-    requires few { length bytes.now ≤ INPUT_LIMIT }
-    requires size { IsMachineSize machine }
-    ensures ok { IfOk result (λ output. IsPlayedOf bytes.now 1 None machine (whole_layout json) output.text.items output.ending) }
-    ensures err { IfErr result (IsScriptEnd bytes.now) }
-{
     let script = parse_script(alloc, bytes)?;
-    let output = play_script_alone::<B, G>(alloc, &script, machine, json, gate)?;
-    Ok(output)
-}
-
-// The same with turns that are drawn from a seed.
-fn play_text_drawn<B: Recorded, G: Gate>(
-    alloc: Global,
-    bytes: &[u8],
-    seed: u64,
-    machine: MachineSize,
-    json: bool,
-    gate: &G,
-) -> Result<Output, Status>
-    requires few { length bytes.now ≤ INPUT_LIMIT }
-    requires size { IsMachineSize machine }
-    ensures ok { IfOk result (λ output. IsPlayedOf bytes.now 1 (Some seed) machine (whole_layout json) output.text.items output.ending) }
-    ensures err { IfErr result (IsScriptEnd bytes.now) }
-{
-    let script = parse_script(alloc, bytes)?;
-    let output = play_script_drawn::<B, G>(alloc, &script, seed, machine, json, gate)?;
+    let output = match seed {
+        Some(seed) => play_script_drawn::<B, G>(alloc, &script, seed, machine, json, gate)?,
+        None => play_script_alone::<B, G>(alloc, &script, machine, json, gate)?,
+    };
     Ok(output)
 }
 

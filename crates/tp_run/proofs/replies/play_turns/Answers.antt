@@ -1,5 +1,5 @@
 use Rattle.tp_run.proofs.Scripted.{script_end}
-use Rattle.tp_run.proofs.replies.play_text_alone.Goals as goal
+use Rattle.tp_run.proofs.replies.play_turns.Goals as goal
 
 pub returns-in_err-script-clause-err : goal.returns-in_err-script-clause-err
 returns-in_err-script-clause-err g c =
