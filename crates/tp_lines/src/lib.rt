@@ -3,7 +3,8 @@
 //!
 //! A text is a line without its line feed. `read_call_line` and `read_entry` read the call or the entry at the
 //! front of a text, or tell the place of its fault. `Lines` has the lines of what calls came to, one behind
-//! another, `ReservedLines` those of entries, and `print_outcome` appends one text.
+//! another, `ReservedLines` those of entries, each with a moment and a space before it, and `print_outcome`
+//! appends one text.
 //!
 //! A call, an answer, a look and full is a row: a word, and parts that describe themselves (`row_of`,
 //! `row_of_answer`, `row_of_look`, `row_of_full`). Its text is theirs, each with one space before it. What stands behind

@@ -1,4 +1,4 @@
-//! Lines of entries for which memory was taken beforehand.
+//! Lines of entries with their moments, for which memory was taken beforehand.
 
 ghost use Rattle.std.specs.Prelude.{◌≡◌, ◌+◌, ◌≤◌, ◌++◌, ◌∷◌, [], decimal, length, min, take, vec_capacity, IfOk};
 ghost use Rattle.tp_lines.specs.Answers.{line_of_entry};
@@ -11,7 +11,7 @@ use tp_base::answers::Answer;
 use tp_base::calls::Call;
 use tp_base::ids::Who;
 
-/// As much as a line needs.
+/// As much as a moment, a space and a line need.
 const ROOM: usize = 544;
 
 /// How many bytes are made ready at once for the lines to come.
