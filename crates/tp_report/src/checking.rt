@@ -56,7 +56,11 @@ pub fn migrate<B: Recorded>(
     let (written, verdict) = judge_all::<Written<B>>(alloc, bytes)?;
     if let Verdict::Legal { .. } = verdict {
         let (_, text) = into_history(alloc, written)?;
-        out.extend_from_slice(&text)?;
+        if out.is_empty() {
+            *out = text;
+        } else {
+            out.extend_from_slice(&text)?;
+        }
     }
     Ok(verdict)
 }

@@ -1,6 +1,6 @@
 //! The lines of traces and histories, each with its line feed.
 
-ghost use Rattle.std.specs.Prelude.{◌≡◌, ◌≤◌, ◌++◌, ◌∷◌, [], IfOk, string_bytes};
+ghost use Rattle.std.specs.Prelude.{◌≡◌, ◌≤◌, ◌++◌, ◌∷◌, [], IfOk, IfSome, string_bytes};
 ghost use Rattle.line_grammar.specs.Language.{IsRead};
 ghost use Rattle.tp_lines.specs.Answers.{EntryLines};
 ghost use Rattle.tp_lines.specs.Calls.{CallLines};
@@ -52,6 +52,18 @@ macro_rules! ended {
             }
         }
     };
+}
+
+/// What stands behind the front of a text, if the text begins with that.
+#[inline(always)]
+pub fn behind_text<'a>(front: &[u8], text: &'a [u8]) -> Option<&'a [u8]>
+    ensures { IfSome result (λ rest. text.now ≡ front.now ++ rest.now) }
+{
+    if !text.starts_with(front) {
+        return None;
+    }
+    let (_, rest) = text.split_at(front.len());
+    Some(rest)
 }
 
 /// Reads the first line of a history.

@@ -6,8 +6,9 @@ ghost use Rattle.tp_base.specs.declared.ids.Who.{Who as Actor};
 ghost use Rattle.tp_report.specs.Moments.{moment_after};
 ghost use Rattle.tp_report.specs.Readings.{IsStamp, MomentLines};
 
+use crate::lines::behind_text;
 use line_grammar::numbers::read_number;
-use line_grammar::words::{behind, behind_word};
+use line_grammar::words::behind;
 use tp_base::answers::Answer;
 use tp_base::calls::Call;
 
@@ -44,7 +45,7 @@ pub fn read_moment<'a>(text: &'a [u8], stamp: &mut Stamp<'a>) -> Result<&'a [u8]
     ensures split { IfOk result (λ rest. text.now ≡ stamp.new.text.now ++ rest.now) }
     ensures err { IfErr result (λ place. IsStuck MomentLines text.now place) }
 {
-    match behind_word(stamp.text, text) {
+    match behind_text(stamp.text, text) {
         Some(rest) => Ok(rest),
         None => read_other_moment(text, stamp),
     }

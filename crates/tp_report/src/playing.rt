@@ -16,7 +16,7 @@ ghost use Rattle.tp_report.specs.declared.playing.MachineSize.{MachineSize as Si
 ghost use Rattle.tp_report.specs.Traces.{client_number, IsHistoryOf, IsHistoryOutput, IsMachineSize, IsOutput, IsOutputOf, IsTraceOf};
 
 use crate::faults::{TextFault, fault_behind};
-use crate::lines::read_call;
+use crate::lines::{behind_text, read_call};
 use crate::written::{Written, into_history};
 use recorded::{Recorded, program_limits};
 use std::alloc::{AllocError, Global};
@@ -204,18 +204,6 @@ fn may_follow(line: &[u8], text: &[u8]) -> bool {
     }
 }
 
-// What stands behind the line, if the text begins with it.
-#[inline(always)]
-fn behind_again<'a>(line: &[u8], text: &'a [u8]) -> Option<&'a [u8]>
-    ensures { IfSome result (λ rest. text.now ≡ line.now ++ rest.now) }
-{
-    if !text.starts_with(line) {
-        return None;
-    }
-    let (_, rest) = text.split_at(line.len());
-    Some(rest)
-}
-
 // Plays the line of a call again, of which this was the outcome, as often as it follows, and answers what stands
 // behind it.
 #[inline(never)]
@@ -237,7 +225,7 @@ fn play_again<'a, B: Recorded>(
         IfOk result (λ rest. IsPlayedTo machine clients bytes (B.recording book.new) out.new greatest lines.new rest.now) }
 {
     let mut rest = text;
-    while let Some(behind) = behind_again(line, rest) {
+    while let Some(behind) = behind_text(line, rest) {
         play_same(book, made.0, &made.1, outcome, out)?;
         *lines += 1;
         rest = behind;
