@@ -3,7 +3,7 @@
 # time goes down the page; what an actor did alone before all others stands above the lanes. What stands behind the
 # history, as its summary, is below, and above that who waited for whom in a wait that stalled. The first file is the
 # script that the history came of, if it is known, and the entry `wrong` has an answer that is not the machine's,
-# which is `said`.
+# which is `said`, or another moment than the one that is `said`.
 
 FILENAME == ARGV[1] { read_script_line($0); next }
 !begun++ { workers = $6; begin_names(); next }
@@ -37,9 +37,9 @@ function tell_entry(at,    call, answer, cut) {
     if (answer == "stalled") stalls = stalls "entry " at " stalled: " find_ring(by[at]) "\n"
     calls[at] = substr(call_with_names(call), cut + 1)
     answers[at] = answer_with_names(call, answer)
-    if (at == wrong) answers[at] = answers[at] "  <- the machine says: " answer_with_names(call, said) about(call, said)
+    if (at == wrong && said !~ /^moment /) answers[at] = answers[at] "  <- the machine says: " answer_with_names(call, said) about(call, said)
     else {
-        answers[at] = answers[at] about(call, answer)
+        answers[at] = answers[at] about(call, answer) (at == wrong ? "  <- it should be: " said : "")
         follow()
     }
 }

@@ -201,6 +201,7 @@ input=$'history 2 clients 1 workers 4 events 65536 objects 65535\n5 c1 advance 5
 moment=$'3:1: 0 c1 finish -> ok\n    the history says: moment 0\n    it should be: moment 5\n'
 try 'a wrong moment' 7 $'not legal at 2: moment 5\n' "$moment" "$tpool" check
 try 'the calls of a history with moments' 0 $'c1 advance 5\nc1 finish\n' '' "$tpool" calls-of
+try 'its row is marked too' 7 $'1  c1   advance 5  advanced 5 0 0\n2  c1   finish     ok  <- it should be: moment 5\n' $'tpool: not legal at 2: moment 5\n'"$moment" "$tpool" show
 input=${input/$'\n0 '/$'\n5 '}
 try 'a history with moments is shown' 0 $'1  c1   advance 5  advanced 5 0 0\n2  c1   finish     ok\n' '' "$tpool" show
 input=${input/-> ok/-> refused no-such}
