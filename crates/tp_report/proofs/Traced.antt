@@ -7,7 +7,7 @@ use Rattle.std.proofs.Math.Seq.{drop-append_seam}
 use Rattle.line_grammar.specs.Language.{IsReadTo as IsReadAs, IsStuck}
 use Rattle.line_grammar.specs.Traces.{trace_text, IsAhead, IsTraceFault}
 use Rattle.recorded.specs.ProgramLimits.{program_limits}
-use Rattle.recorded.specs.Recordings.{Recording, IsFirstOf, outcomes_behind}
+use Rattle.recorded.specs.Recordings.{Recording, IsFirstOf, entries_told, outcomes_behind, recorded}
 use Rattle.tp_base.specs.declared.answers.Outcome.{Outcome}
 use Rattle.tp_base.specs.declared.calls.Call.{Call}
 use Rattle.tp_base.specs.declared.ids.Who.{Who}
@@ -15,10 +15,10 @@ use Rattle.tp_base.specs.declared.ids.Who.TheVariants.{Client, Worker}
 use Rattle.tp_lines.specs.Answers.{text_of_outcome}
 use Rattle.tp_lines.specs.Calls.{CallLines, IsLine, IsWhoInRange}
 use Rattle.tp_model.specs.History.{play}
-use Rattle.tp_report.specs.Playing.{IsPlayed, IsPlayedOf, IsPlayedTo, IsReadTo}
+use Rattle.tp_report.specs.Playing.{book_of, IsPlayed, IsPlayedOf, IsPlayedTo, IsReadTo}
 use Rattle.tp_report.specs.declared.playing.MachineSize.{MachineSize}
 use Rattle.tp_report.specs.Readings.{Ended}
-use Rattle.tp_report.specs.Traces.{line_of, HasLine, IsTraceOf, answers_text, client_number}
+use Rattle.tp_report.specs.Traces.{line_of, HasLine, IsTraceOf, answers_text, client_number, entries_of}
 use Rattle.tp_report.specs.declared.playing.Played.{Played}
 use Rattle.tp_report.proofs.EndedFacts.{ahead_read, read_first, stuck_first, reaches_line, absent_line}
 use Rattle.tp_report.proofs.Places.{call_part}
@@ -128,6 +128,9 @@ played_none machine clients bytes book text limits capacity empty none =
       read = read_none bytes;
       counts = refl;
       told = λ more. ap (λ t. t ++ answers_text (outcomes_behind book more)) none ∙ ap (λ r. answers_text (outcomes_behind r more)) opened;
+      limits = limits;
+      capacity = capacity;
+      written = λ more. ap (λ (r : Recording). r.history ++ entries_of more (outcomes_behind r more)) opened;
       greatest_is = refl;
       most = omega arith;
     }
@@ -141,9 +144,9 @@ module _ (machine : MachineSize) (clients : ℕ) (bytes : List ℕ) (book : Reco
   pub played_few : lines + length rest ≤ length bytes
   played_few = omega (arith, p.counts, read_count bytes p.calls rest p.read)
 
-  pub played_next : (new : Recording) (made : Who × Call) (size next : ℕ) (outcome : Outcome) (longer : List ℕ) → IsReadAs (Ended CallLines) rest made size → IsFirstOf book new made.0 made.1 outcome
+  pub played_next : (new : Recording) (made : Who × Call) (size next : ℕ) (outcome : Outcome) (longer : List ℕ) → IsReadAs (Ended CallLines) rest made size → new ≡ recorded book made.0 made.1 outcome → IsFirstOf book new made.0 made.1 outcome
       → longer ≡ text ++ (text_of_outcome outcome ++ 10 ∷ []) → next ≡ max greatest (client_number made.0) → IsPlayedTo machine clients bytes new longer next (lines + 1) (drop size rest)
-  played_next new made size next outcome longer read first line is = record {
+  played_next new made size next outcome longer read made_is first line is = record {
     calls = p.calls ++ made ∷ [];
     read = read_next bytes p.calls rest p.read made size read;
     counts = omega (arith, p.counts, length-append p.calls (made ∷ []));
@@ -154,14 +157,24 @@ module _ (machine : MachineSize) (clients : ℕ) (bytes : List ℕ) (book : Reco
         ∙ ap (λ t. text ++ t) (append_assoc (text_of_outcome outcome) (10 ∷ []) behind ∙ ap (λ os. answers_text os) (sym (first more)))
         ∙ p.told (made ∷ more)
         ∙ ap (λ cs. answers_text (play (program_limits clients machine.workers) machine.events cs)) (sym (append_assoc p.calls (made ∷ []) more));
+    limits = ap (λ (r : Recording). r.limits) made_is ∙ p.limits;
+    capacity = ap (λ (r : Recording). r.capacity) made_is ∙ p.capacity;
+    written = λ more.
+        let entries = entries_told made.0 made.1 outcome in
+        let behind = outcomes_behind new more in
+        ap (λ (r : Recording). r.history ++ entries_of more behind) made_is
+        ∙ append_assoc book.history entries (entries_of more behind)
+        ∙ ap (λ os. book.history ++ entries_of (made ∷ more) os) (sym (first more))
+        ∙ p.written (made ∷ more)
+        ∙ ap (λ cs. entries_of cs (play (program_limits clients machine.workers) machine.events cs)) (sym (append_assoc p.calls (made ∷ []) more));
     greatest_is = is ∙ ap (λ n. max n (client_number made.0)) p.greatest_is ∙ sym (clients_push p.calls made 0);
     most = omega (arith, is, p.most, number_most made.0 read.text_of.is_line.who_in_range);
   }
 
   -- the line of a call stands there once more
-  pub played_again : (new : Recording) (made : Who × Call) (line behind longer : List ℕ) (outcome : Outcome) → Ended CallLines made line → rest ≡ line ++ behind → IsFirstOf book new made.0 made.1 outcome
+  pub played_again : (new : Recording) (made : Who × Call) (line behind longer : List ℕ) (outcome : Outcome) → Ended CallLines made line → rest ≡ line ++ behind → new ≡ recorded book made.0 made.1 outcome → IsFirstOf book new made.0 made.1 outcome
       → longer ≡ text ++ (text_of_outcome outcome ++ 10 ∷ []) → client_number made.0 ≤ greatest → IsPlayedTo machine clients bytes new longer greatest (lines + 1) behind
-  played_again new made line behind longer outcome e split first printed most =
+  played_again new made line behind longer outcome e split made_is first printed most =
       let size = length line in
       let dropped : drop size rest ≡ behind = ap (drop size) split ∙ drop-append_seam line behind in
       let ahead : IsAhead CallLines rest made size
@@ -173,7 +186,7 @@ module _ (machine : MachineSize) (clients : ℕ) (bytes : List ℕ) (book : Reco
         within = omega (arith, ap length split, length-append line behind);
       } in
       subst (λ r. IsPlayedTo machine clients bytes new longer greatest (lines + 1) r) dropped
-      (played_next new made size greatest outcome longer (ahead_read CallLines call_part rest made size ahead) first printed (omega (arith, most)))
+      (played_next new made size greatest outcome longer (ahead_read CallLines call_part rest made size ahead) made_is first printed (omega (arith, most)))
 
   pub played_fault : (place : ℕ) → 0 < length rest → IsStuck (Ended CallLines) rest place → IsTraceFault IsLine bytes (lines + 1) (place + 1)
   played_fault place more stuck = subst (λ n. IsTraceFault IsLine bytes (n + 1) (place + 1)) (sym p.counts) (read_fault bytes p.calls rest p.read place more stuck)
@@ -184,14 +197,16 @@ module _ (machine : MachineSize) (clients : ℕ) (bytes : List ℕ) (book : Reco
   text_is : text ≡ answers_text (play (program_limits clients machine.workers) machine.events p.calls)
   text_is = sym (append-nil text) ∙ p.told [] ∙ ap (λ cs. answers_text (play (program_limits clients machine.workers) machine.events cs)) (append-nil p.calls)
 
-  pub played_all : (played : Played) → played.text.items ≡ text → played.clients ≡ greatest → length rest ≡ 0 → IsPlayed machine clients bytes played
-  played_all played all count none = record {
-    calls = p.calls;
-    is_trace = read_all bytes p.calls rest p.read none;
-    is_played = record { text_is = all ∙ text_is; greatest = count ∙ p.greatest_is };
-  }
+  book_is : book ≡ book_of (program_limits clients machine.workers) machine.events p.calls
+  book_is =
+      let written = sym (append-nil book.history) ∙ p.written [] ∙ ap (λ cs. entries_of cs (play (program_limits clients machine.workers) machine.events cs)) (append-nil p.calls) in
+      ap₂ (λ l n. record book { limits = l; capacity = n }) p.limits p.capacity ∙ ap (λ h. record { limits = program_limits clients machine.workers; capacity = machine.events; history = h }) written
 
-  pub played_only : (played : Played) → played.text.items ≡ text → played.clients ≡ greatest → length rest ≡ 0 → (all : List (Who × Call)) → IsTraceOf bytes all → IsPlayedOf machine clients all played
-  played_only played same count none all trace =
-      subst (λ cs. IsPlayedOf machine clients cs played) (read_only bytes p.calls rest p.read none all trace)
-      (record { text_is = same ∙ text_is; greatest = count ∙ p.greatest_is })
+  is_played : (played : Played) → played.text.items ≡ text → played.clients ≡ greatest → IsPlayedOf machine clients p.calls book played
+  is_played played same count = record { book_is = book_is; text_is = same ∙ text_is; greatest = count ∙ p.greatest_is }
+
+  pub played_all : (played : Played) → played.text.items ≡ text → played.clients ≡ greatest → length rest ≡ 0 → IsPlayed machine clients bytes book played
+  played_all played same count none = record { calls = p.calls; is_trace = read_all bytes p.calls rest p.read none; is_played = is_played played same count }
+
+  pub played_only : (played : Played) → played.text.items ≡ text → played.clients ≡ greatest → length rest ≡ 0 → (all : List (Who × Call)) → IsTraceOf bytes all → IsPlayedOf machine clients all book played
+  played_only played same count none all trace = subst (λ cs. IsPlayedOf machine clients cs book played) (read_only bytes p.calls rest p.read none all trace) (is_played played same count)

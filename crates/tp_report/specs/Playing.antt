@@ -7,36 +7,35 @@ use Rattle.tp_base.specs.declared.answers.Outcome.{Outcome}
 use Rattle.tp_base.specs.declared.answers.Outcome.TheVariants.{Done}
 use Rattle.tp_base.specs.declared.calls.Call.{Call}
 use Rattle.tp_base.specs.declared.ids.Who.{Who}
+use Rattle.tp_base.specs.declared.limits.Limits.{Limits}
 use Rattle.tp_model.specs.History.{play}
-use Rattle.tp_report.specs.Traces.{line_of, HasLine, IsTraceOf, answers_text, clients_in, entries_of}
-use Rattle.tp_report.specs.Histories.{history_text}
+use Rattle.tp_report.specs.Traces.{line_of, HasLine, IsTraceOf, answers_text, clients_in, entries_of, limits_of, output_of}
 use Rattle.tp_report.specs.declared.playing.MachineSize.{MachineSize}
 use Rattle.tp_report.specs.declared.playing.Played.{Played}
 
-pub record IsPlayedOf (machine : MachineSize) (clients : ℕ) (calls : List (Who × Call)) (played : Played) : Type 0 where
+-- the book of a machine of these limits and this size, on which these calls were made and no others
+abbrev pub book_of : Limits → ℕ → List (Who × Call) → Recording
+book_of limits events calls = record { limits = limits; capacity = events; history = entries_of calls (play limits events calls) }
+
+pub record IsPlayedOf (machine : MachineSize) (clients : ℕ) (calls : List (Who × Call)) (book : Recording) (played : Played) : Type 0 where
+  pub book_is : book ≡ book_of (program_limits clients machine.workers) machine.events calls
   pub text_is : played.text.items ≡ answers_text (play (program_limits clients machine.workers) machine.events calls)
   pub greatest : played.clients ≡ clients_in calls
 
-pub record IsPlayed (machine : MachineSize) (clients : ℕ) (bytes : List ℕ) (played : Played) : Type 0 where
+pub record IsPlayed (machine : MachineSize) (clients : ℕ) (bytes : List ℕ) (book : Recording) (played : Played) : Type 0 where
   pub calls : List (Who × Call)
   pub is_trace : IsTraceOf bytes calls
-  pub is_played : IsPlayedOf machine clients calls played
+  pub is_played : IsPlayedOf machine clients calls book played
 
--- on the book of such a machine these calls were made, and it has their history
-pub record IsBookOf (old : Recording) (calls : List (Who × Call)) (new : Recording) : Type 0 where
-  pub limits : new.limits ≡ old.limits
-  pub capacity : new.capacity ≡ old.capacity
-  pub history : new.history ≡ entries_of calls (play old.limits old.capacity calls)
+-- the machine has as many clients as make the calls
+pub record ArePlayed (machine : MachineSize) (calls : List (Who × Call)) (book : Recording) (text : List ℕ) : Type 0 where
+  pub book_is : book ≡ book_of (limits_of machine calls) machine.events calls
+  pub text_is : text ≡ output_of machine calls
 
--- the text is their history
-pub record IsWrittenDownOf (machine : MachineSize) (clients : ℕ) (calls : List (Who × Call)) (written : Played) : Type 0 where
-  pub text_is : written.text.items ≡ history_text (program_limits clients machine.workers) machine.events (entries_of calls (play (program_limits clients machine.workers) machine.events calls))
-  pub greatest : written.clients ≡ clients_in calls
-
-pub record IsWrittenDown (machine : MachineSize) (clients : ℕ) (bytes : List ℕ) (written : Played) : Type 0 where
+pub record AreCallsPlayed (machine : MachineSize) (bytes : List ℕ) (book : Recording) (text : List ℕ) : Type 0 where
   pub calls : List (Who × Call)
   pub is_trace : IsTraceOf bytes calls
-  pub is_written_down : IsWrittenDownOf machine clients calls written
+  pub are_played : ArePlayed machine calls book text
 
 -- how large the machine of a recording is
 abbrev pub size_of : Recording → MachineSize
@@ -49,12 +48,15 @@ pub record IsReadTo (bytes : List ℕ) (calls : List (Who × Call)) (rest : List
   pub only : (all : List (Who × Call)) → IsTraceOf bytes all → (tail : List (Who × Call)) × (all ≡ calls ++ tail) × IsTraceOf rest tail
 
 -- the calls that were read were played on the book, and what they came to was printed; what further calls come to goes on
--- from there
+-- from there, and so does their history
 pub record IsPlayedTo (machine : MachineSize) (clients : ℕ) (bytes : List ℕ) (book : Recording) (text : List ℕ) (greatest lines : ℕ) (rest : List ℕ) : Type 0 where
   pub calls : List (Who × Call)
   pub read : IsReadTo bytes calls rest
   pub counts : lines ≡ length calls
   pub told : (more : List (Who × Call)) → text ++ answers_text (outcomes_behind book more) ≡ answers_text (play (program_limits clients machine.workers) machine.events (calls ++ more))
+  pub limits : book.limits ≡ program_limits clients machine.workers
+  pub capacity : book.capacity ≡ machine.events
+  pub written : (more : List (Who × Call)) → book.history ++ entries_of more (outcomes_behind book more) ≡ entries_of (calls ++ more) (play (program_limits clients machine.workers) machine.events (calls ++ more))
   pub greatest_is : greatest ≡ clients_in calls
   pub most : greatest ≤ 16
 

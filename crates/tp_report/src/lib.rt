@@ -1,6 +1,7 @@
 //! Reports on histories of the thread pool machine, from texts.
 //!
-//! `trace` plays the calls of a text, a line each, and answers the line of what each comes to. `check`
+//! `trace` plays the calls of a text, a line each, and answers the line of what each comes to. `history`
+//! plays them too, and answers the history that they make, in format 2. `check`
 //! reads a history and says whether each answer in it is the machine's, and each moment right;
 //! `print_verdict` appends the text of that. A history as a text is its first line, which says how large
 //! the machine was; its entries, a line each, in format 2 with the time of the clock before each; and the

@@ -3,14 +3,14 @@
 ghost use Rattle.std.specs.Prelude.{◌≡◌, ℕ, ◌+◌, ◌≤◌, ◌<◌, ◌-◌, ◌^◌, ◌++◌, ◌∷◌, [], List, IfErr, IfOk, IfSome, OnOk, length, max};
 ghost use Rattle.line_grammar.specs.Traces.{IsTraceFault};
 ghost use Rattle.recorded.specs.ProgramLimits.{program_limits};
-ghost use Rattle.recorded.specs.Recordings.{IsFirstOf, outcome_behind};
+ghost use Rattle.recorded.specs.Recordings.{IsFirstOf, outcome_behind, recorded};
 ghost use Rattle.tp_base.specs.declared.calls.Call.{Call as Made};
 ghost use Rattle.tp_base.specs.Ranges.{IsCallInRange};
 ghost use Rattle.tp_base.specs.declared.ids.Who.{Who as Actor};
 ghost use Rattle.tp_lines.specs.Answers.{text_of_outcome};
 ghost use Rattle.tp_lines.specs.Calls.{CallLines, IsLine};
 ghost use Rattle.tp_report.specs.Faults.{IsOrNoMemory, IsPlace};
-ghost use Rattle.tp_report.specs.Playing.{IsBookOf, IsPlayed, IsPlayedOf, IsPlayedTo, IsSameAgain, IsWrittenDown, IsWrittenDownOf, size_of};
+ghost use Rattle.tp_report.specs.Playing.{ArePlayed, AreCallsPlayed, IsPlayed, IsPlayedOf, IsPlayedTo, IsSameAgain, size_of};
 ghost use Rattle.tp_report.specs.Readings.{Ended};
 ghost use Rattle.tp_report.specs.declared.playing.MachineSize.{MachineSize as Size};
 ghost use Rattle.tp_report.specs.Traces.{client_number, IsHistoryOf, IsHistoryOutput, IsMachineSize, IsOutput, IsOutputOf, IsTraceOf};
@@ -53,15 +53,8 @@ pub fn trace<B: Recorded>(
     ensures only { (calls : List (Actor × Made)) → IsTraceOf bytes.now calls → IsOrNoMemory (IsOutputOf machine calls) result }
     ensures err { IfErr result (λ fault. IsPlace (IsTraceFault IsLine bytes.now) fault) }
 {
-    let guess = guess_clients(bytes);
-    let played = play::<B>(alloc, bytes, machine, guess)?;
-    let clients = played.clients;
-    if clients == guess {
-        return Ok(played.text);
-    }
-    drop(played);
-    let again = play::<B>(alloc, bytes, machine, clients)?;
-    Ok(again.text)
+    let (_, text) = play_trace::<B>(alloc, bytes, machine)?;
+    Ok(text)
 }
 
 /// Plays the calls of a text as `trace` does, and answers the history that they make, in format 2: a line for each call
@@ -79,43 +72,40 @@ pub fn history<B: Recorded>(
     ensures only { (calls : List (Actor × Made)) → IsTraceOf bytes.now calls → IsOrNoMemory (IsHistoryOf machine calls) result }
     ensures err { IfErr result (λ fault. IsPlace (IsTraceFault IsLine bytes.now) fault) }
 {
-    let guess = guess_clients(bytes);
-    let written = write_down::<B>(alloc, bytes, machine, guess)?;
-    let clients = written.clients;
-    if clients == guess {
-        return Ok(written.text);
-    }
-    drop(written);
-    let again = write_down::<B>(alloc, bytes, machine, clients)?;
-    Ok(again.text)
+    let (book, _) = play_trace::<Written<B>>(alloc, bytes, machine)?;
+    let (_, text) = into_history(alloc, book)?;
+    Ok(text)
 }
 
-// Plays the calls of a trace on a machine of this size with so many clients, and answers their history.
-fn write_down<B: Recorded>(
+// Plays the calls of a trace on a machine of this size with as many clients as make them, and answers the machine and the
+// line of each outcome.
+fn play_trace<B: Recorded>(
     alloc: Global,
     bytes: &[u8],
     machine: MachineSize,
-    clients: u32,
-) -> Result<Played, TextFault>
+) -> Result<(B, Vec<u8>), TextFault>
     requires few { length bytes.now < 2 ^ 32 - 1 }
     requires size { IsMachineSize machine }
-    requires clients { clients ≤ 16 }
-    ensures ok { IfOk result (λ written. IsWrittenDown machine clients bytes.now written) }
-    ensures most { IfOk result (λ written. written.clients ≤ 16) }
-    ensures only { (calls : List (Actor × Made)) → IsTraceOf bytes.now calls → IsOrNoMemory (IsWrittenDownOf machine clients calls) result }
+    ensures ok { IfOk result (λ played. AreCallsPlayed machine bytes.now (B.recording played.0) played.1.items) }
+    ensures only { (calls : List (Actor × Made)) → IsTraceOf bytes.now calls → IsOrNoMemory (λ played. ArePlayed machine calls (B.recording played.0) played.1.items) result }
     ensures err { IfErr result (λ fault. IsPlace (IsTraceFault IsLine bytes.now) fault) }
 {
-    let limits = program_limits(clients, machine.workers);
-    let mut book = Written::<B>::open(alloc, limits, machine.events)?;
-    let Played { clients, .. } = play_calls(alloc, &mut book, bytes)?;
-    let (_, text) = into_history(alloc, book)?;
-    Ok(Played { text, clients })
+    let guess = guess_clients(bytes);
+    let (book, played) = play::<B>(alloc, bytes, machine, guess)?;
+    let clients = played.clients;
+    if clients == guess {
+        return Ok((book, played.text));
+    }
+    drop(book);
+    drop(played);
+    let (book, again) = play::<B>(alloc, bytes, machine, clients)?;
+    Ok((book, again.text))
 }
 
 /// What the calls of a trace came to.
 #[derive(Drop)]
 pub struct Played {
-    /// The line of each outcome, or their history.
+    /// The line of each outcome.
     pub text: Vec<u8>,
     /// The greatest number of a client that made a call, or 0.
     pub clients: u32,
@@ -127,13 +117,13 @@ fn play<B: Recorded>(
     bytes: &[u8],
     machine: MachineSize,
     clients: u32,
-) -> Result<Played, TextFault>
+) -> Result<(B, Played), TextFault>
     requires few { length bytes.now < 2 ^ 32 - 1 }
     requires size { IsMachineSize machine }
     requires clients { clients ≤ 16 }
-    ensures ok { IfOk result (λ played. IsPlayed machine clients bytes.now played) }
-    ensures most { IfOk result (λ played. played.clients ≤ 16) }
-    ensures only { (calls : List (Actor × Made)) → IsTraceOf bytes.now calls → IsOrNoMemory (IsPlayedOf machine clients calls) result }
+    ensures ok { IfOk result (λ played. IsPlayed machine clients bytes.now (B.recording played.0) played.1) }
+    ensures most { IfOk result (λ played. played.1.clients ≤ 16) }
+    ensures only { (calls : List (Actor × Made)) → IsTraceOf bytes.now calls → IsOrNoMemory (λ played. IsPlayedOf machine clients calls (B.recording played.0) played.1) result }
     ensures err { IfErr result (λ fault. IsPlace (IsTraceFault IsLine bytes.now) fault) }
 {
     let mut book = B::open(
@@ -141,7 +131,8 @@ fn play<B: Recorded>(
         program_limits(clients, machine.workers),
         machine.events,
     )?;
-    play_calls(alloc, &mut book, bytes)
+    let played = play_calls(alloc, &mut book, bytes)?;
+    Ok((book, played))
 }
 
 // The same on a book without entries.
@@ -150,12 +141,11 @@ fn play_calls<B: Recorded>(alloc: Global, book: &mut B, bytes: &[u8]) -> Result<
     requires limits { (B.recording book.old).limits ≡ program_limits (B.recording book.old).limits.clients (B.recording book.old).limits.workers }
     requires clients { (B.recording book.old).limits.clients ≤ 16 }
     requires empty { (B.recording book.old).history ≡ [] }
-    ensures ok { IfOk result (λ played. IsPlayed (size_of (B.recording book.old)) (B.recording book.old).limits.clients bytes.now played) }
+    ensures ok { IfOk result (λ played. IsPlayed (size_of (B.recording book.old)) (B.recording book.old).limits.clients bytes.now (B.recording book.new) played) }
     ensures most { IfOk result (λ played. played.clients ≤ 16) }
-    ensures only { (calls : List (Actor × Made)) → IsTraceOf bytes.now calls → IsOrNoMemory (IsPlayedOf (size_of (B.recording book.old)) (B.recording book.old).limits.clients calls) result }
+    ensures only { (calls : List (Actor × Made)) → IsTraceOf bytes.now calls →
+        IsOrNoMemory (IsPlayedOf (size_of (B.recording book.old)) (B.recording book.old).limits.clients calls (B.recording book.new)) result }
     ensures err { IfErr result (λ fault. IsPlace (IsTraceFault IsLine bytes.now) fault) }
-    // What was made on the book is their history.
-    ensures book { IfOk result (λ played. (calls : List (Actor × Made)) → IsTraceOf bytes.now calls → IsBookOf (B.recording book.old) calls (B.recording book.new)) }
 {
     let mut text = Lines::new(alloc);
     let mut greatest = 0;
@@ -245,6 +235,7 @@ fn play_same<B: Recorded>(
 ) -> Result<(), AllocError>
     requires in_range { IsCallInRange call.now }
     requires same { IsSameAgain (B.recording book.old) who call.now outcome.old }
+    ensures recorded { B.recording book.new ≡ recorded (B.recording book.old) who call.now outcome.new }
     ensures first { IsFirstOf (B.recording book.old) (B.recording book.new) who call.now outcome.new }
     ensures same { IsSameAgain (B.recording book.new) who call.now outcome.new }
     ensures printed { OnOk result (lines.new ≡ lines.old ++ (text_of_outcome outcome.new ++ 10 ∷ [])) }
@@ -266,6 +257,7 @@ fn play_call<B: Recorded>(
     lines: &mut Lines,
 ) -> Result<(), AllocError>
     requires { IsCallInRange call.now }
+    ensures recorded { B.recording book.new ≡ recorded (B.recording book.old) who call.now (outcome_behind (B.recording book.old) who call.now) }
     ensures first { IsFirstOf (B.recording book.old) (B.recording book.new) who call.now (outcome_behind (B.recording book.old) who call.now) }
     ensures same { IsSameAgain (B.recording book.new) who call.now outcome.new }
     ensures printed { OnOk result (lines.new ≡ lines.old ++ (text_of_outcome (outcome_behind (B.recording book.old) who call.now) ++ 10 ∷ [])) }

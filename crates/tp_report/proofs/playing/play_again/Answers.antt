@@ -13,5 +13,5 @@ loop-behind-preserved g c =
       λ machine clients bytes greatest most p.
           played_again machine clients bytes (g.B.Recorded.recording l.book) l.out greatest l.lines l.rest.now (l.invariant.3 machine clients bytes greatest most p)
           (g.B.Recorded.recording c.play_same.new.book) c.args.made.now c.args.line.now c.in-Some.behind.now c.play_same.new.lines c.play_same.new.outcome e split
-          c.play_same.ensures.first c.in_ok-play_same.ensures.printed most,
+          c.play_same.ensures.recorded c.play_same.ensures.first c.in_ok-play_same.ensures.printed most,
     )

@@ -44,7 +44,7 @@ next g c =
     rw c.split_at.ensures.back
     (played_next (size_of (g.B.Recorded.recording c.args.book.now)) (g.B.Recorded.recording c.args.book.now).limits.clients c.args.bytes.now (g.B.Recorded.recording l.book) l.text l.greatest l.lines l.rest.now l.invariant
     (g.B.Recorded.recording c.play_call.new.book) c.read_call.new.made c.in-Ok.size c.greater_client-greatest.result (outcome_behind (g.B.Recorded.recording l.book) c.read_call.new.made.0 c.read_call.new.made.1)
-    c.play_call.new.lines c.in-Ok.ensures c.play_call.ensures.first c.in_ok-play_call-in-Ok.ensures.printed c.greater_client-greatest.ensures)
+    c.play_call.new.lines c.in-Ok.ensures c.play_call.ensures.recorded c.play_call.ensures.first c.in_ok-play_call-in-Ok.ensures.printed c.greater_client-greatest.ensures)
 
 pub play_again-requires-clause-few : goal.play_again-requires-clause-few
 play_again-requires-clause-few g c =
@@ -79,7 +79,7 @@ returns-clause-only g c =
 
 pub returns-in_err-play_call-in-Ok-clause-only : goal.returns-in_err-play_call-in-Ok-clause-only
 returns-in_err-play_call-in-Ok-clause-only g c = λ all trace.
-    let told = c.from_residual in or_no_memory (IsPlayedOf (size_of (g.B.Recorded.recording c.args.book.now)) (g.B.Recorded.recording c.args.book.now).limits.clients all) told.result told.ensures.1
+    let told = c.from_residual in or_no_memory (IsPlayedOf (size_of (g.B.Recorded.recording c.args.book.now)) (g.B.Recorded.recording c.args.book.now).limits.clients all (g.B.Recorded.recording c.play_call.new.book)) told.result told.ensures.1
 
 pub returns-in_err-play_call-in-Ok-clause-err : goal.returns-in_err-play_call-in-Ok-clause-err
 returns-in_err-play_call-in-Ok-clause-err g c = let told = c.from_residual in no_place (IsTraceFault IsLine c.args.bytes.now) told.result told.ensures.1
