@@ -177,19 +177,12 @@ fn read_moment_line<'a>(
 fn read_end_line(alloc: Global, text: &[u8], len: u32) -> Result<Option<usize>, AllocError>
     ensures { IfOk result (IsEndRead len text.now) }
 {
-    let line = end_text(alloc, len)?;
+    let line = format!(in alloc; "end {len}\n")?;
     let none: Option<Line> = None;
     match read_bytes(none, line.as_bytes(), text) {
         Ok(_) => Ok(None),
         Err(place) => Ok(Some(place)),
     }
-}
-
-// The end line behind `len` entries, and its line feed.
-fn end_text(alloc: Global, len: u32) -> Result<String, AllocError>
-    ensures { IfOk result (λ text. string_bytes text ≡ end_line len ++ 10 ∷ []) }
-{
-    format!(in alloc; "end {len}\n")
 }
 
 /// Reads the line behind the header of a history and `len` entries. Where it is that of one more entry, it is written

@@ -103,19 +103,18 @@ pub fn print_verdict(alloc: Global, verdict: &Verdict, out: &mut Vec<u8>) -> Res
     ensures err { OnErr result (out.new.items ≡ out.old.items) }
 {
     let text = match verdict {
-        Verdict::Legal { len } => legal_text(alloc, *len)?,
+        Verdict::Legal { len } => {
+            let line = format!(in alloc; "legal {len}\n")?;
+            Vec::from_slice(alloc, line.as_bytes())?
+        }
         Verdict::NotLegal { position, outcome } => not_legal_text(alloc, *position, outcome)?,
-        Verdict::WrongMoment { position, now } => moment_text(alloc, *position, *now)?,
+        Verdict::WrongMoment { position, now } => {
+            let line = format!(in alloc; "not legal at {position}: moment {now}\n")?;
+            Vec::from_slice(alloc, line.as_bytes())?
+        }
     };
     out.extend_from_slice(&text)?;
     Ok(())
-}
-
-fn legal_text(alloc: Global, len: u32) -> Result<Vec<u8>, AllocError>
-    ensures { IfOk result (λ text. text.items ≡ verdict_text (Verdict.Legal len)) }
-{
-    let line = format!(in alloc; "legal {len}\n")?;
-    Vec::from_slice(alloc, line.as_bytes())
 }
 
 fn not_legal_text(alloc: Global, position: u32, outcome: &Outcome) -> Result<Vec<u8>, AllocError>
@@ -126,11 +125,4 @@ fn not_legal_text(alloc: Global, position: u32, outcome: &Outcome) -> Result<Vec
     print_outcome(outcome, &mut text)?;
     text.push(b'\n')?;
     Ok(text)
-}
-
-fn moment_text(alloc: Global, position: u32, now: u64) -> Result<Vec<u8>, AllocError>
-    ensures { IfOk result (λ text. text.items ≡ verdict_text (Verdict.WrongMoment position now)) }
-{
-    let line = format!(in alloc; "not legal at {position}: moment {now}\n")?;
-    Vec::from_slice(alloc, line.as_bytes())
 }
