@@ -77,7 +77,7 @@ json : json_line totals ≡ codes "{\"callbacks\":5,\"cancelled\":1,\"entries\":
 unfolding totals digits serde_json_on_literals
 json = refl
 
-none : history_text limits 100 [] ≡ codes "history 1 clients 1 workers 2 events 100\nend 0\n"
+none : history_text limits 100 [] ≡ codes "history 2 clients 1 workers 2 events 100 objects 2\nend 0\n"
 unfolding limits digits
 none = refl
 

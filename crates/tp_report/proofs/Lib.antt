@@ -11,6 +11,7 @@ pub mod Judging
 pub mod Keeping
 pub mod Keys
 pub mod LineFacts
+pub mod Migrating
 pub mod NoneLost
 pub mod Places
 pub mod SoFar

@@ -1,5 +1,5 @@
 -- How far the lines of a history have been read.
-use Rattle.std.proofs.Common.{◌≡◌, ℕ, suc, ◌+◌, ◌<◌, ◌≤◌, ◌^◌, List, [], ◌∷◌, ◌++◌, length, take, drop, refl, sym, ap, ◌∙◌, subst, arith, zero-add, add-zero}
+use Rattle.std.proofs.Common.{◌≡◌, ℕ, suc, ◌+◌, ◌<◌, ◌≤◌, ◌^◌, List, [], ◌∷◌, ◌++◌, length, take, drop, refl, sym, ap, ap₂, ◌∙◌, subst, arith, zero-add, add-zero}
 use Rattle.std.specs.Prelude.{All, map, None, Some, Result, Ok, Err, IfOk, IfErr}
 use Rattle.std.proofs.lemmas.List.{append_assoc, append-nil, length-append, length-map, take-append-drop, length-take-le}
 use Rattle.std.proofs.lemmas.List.Elements.{All-nil, All-push, All-head, All-tail}
@@ -21,7 +21,7 @@ use Rattle.tp_base.specs.declared.limits.Limits.{Limits}
 use Rattle.tp_model.specs.Laws.{KeepsLaws}
 use Rattle.tp_model.proofs.Laws.{keeps_laws}
 use Rattle.tp_report.specs.Faults.{IsOrNoMemory, IsPlace}
-use Rattle.tp_report.specs.Judging.{AreLines, AreRest, IsJudgedTo, IsLinesFault, IsSameMachine, IsVerdictBehind, len_told, lines_text}
+use Rattle.tp_report.specs.Judging.{AreLines, AreRest, IsBookOf, IsJudgedOn, IsJudgedTo, IsLinesFault, IsSameMachine, IsVerdictBehind, KeepsUp, len_told, lines_text}
 use Rattle.tp_report.specs.Verdicts.{IfLegal, IsJudged, IsVerdict, limits_of}
 use Rattle.tp_report.proofs.EndedFacts.{read_first, stuck_first, reaches_line, absent_line}
 use Rattle.tp_report.proofs.Places.{header_part, next_part}
@@ -207,27 +207,27 @@ module _ (bytes : List ℕ) (header : Header) (size : ℕ) (read : IsReadTo (End
 
   -- the same of what was answered on the rest
   module _ (text : List ℕ) (behind : text ≡ drop size bytes) where
-    pub result_ok : (r : Result Verdict TextFault) → IfOk r (λ verdict. IsVerdictBehind header text verdict) → IfOk r (λ verdict. IsJudged bytes verdict)
-    result_ok (Ok verdict) h = record {
+    pub result_ok : {T : Type 0} (r : Result T TextFault) (told : T → Verdict) → IfOk r (λ t. IsVerdictBehind header text (told t)) → IfOk r (λ t. IsJudged bytes (told t))
+    result_ok (Ok value) told h = record {
       header = header;
       lines = h.lines;
       is_history = history_read h.lines (subst (λ t. AreLines header t h.lines) behind h.are_lines);
       is_verdict = h.is_verdict;
     }
-    result_ok (Err fault) h = h
+    result_ok (Err fault) told h = h
 
-    pub result_only : (r : Result Verdict TextFault) → ((lines : List Line) → AreLines header text lines → IsOrNoMemory (IsVerdict (limits_of header) header.events lines) r)
-        → (other : Header) (lines : List Line) → IsHistory bytes other lines → IsOrNoMemory (IsVerdict (limits_of other) other.events lines) r
-    result_only r h other lines history =
+    pub result_only : {T : Type 0} (r : Result T TextFault) (P : Header → List Line → T → Type 0) → ((lines : List Line) → AreLines header text lines → IsOrNoMemory (P header lines) r)
+        → (other : Header) (lines : List Line) → IsHistory bytes other lines → IsOrNoMemory (P other lines) r
+    result_only r P h other lines history =
         let o = history_only other lines history in
-        subst (λ (x : Header). IsOrNoMemory (IsVerdict (limits_of x) x.events lines) r) o.0 (h lines (subst (λ t. AreLines header t lines) (sym behind) o.1))
+        subst (λ (x : Header). IsOrNoMemory (P x lines) r) o.0 (h lines (subst (λ t. AreLines header t lines) (sym behind) o.1))
 
     place_in : (fault : TextFault) → IsPlace (IsLinesFault header text) fault → IsPlace (IsHistoryFault bytes) fault
     place_in NoMemory h = tt
     place_in (At line column) h = history_fault line column (subst (λ t. IsLinesFault header t line column) behind h)
 
-    pub result_err : (r : Result Verdict TextFault) → IfErr r (λ fault. IsPlace (IsLinesFault header text) fault) → IfErr r (λ fault. IsPlace (IsHistoryFault bytes) fault)
-    result_err (Ok verdict) h = h
+    pub result_err : {T : Type 0} (r : Result T TextFault) → IfErr r (λ fault. IsPlace (IsLinesFault header text) fault) → IfErr r (λ fault. IsPlace (IsHistoryFault bytes) fault)
+    result_err (Ok value) h = h
     result_err (Err fault) h = place_in fault h
 
 -- at the header
@@ -279,6 +279,15 @@ checked_first header text book limits capacity empty = record {
   capacity = capacity;
 }
 
+-- as long as each line is right, the machine has their entries
+book_of : (header : Header) (lines : List Line) (book : Recording) (now : ℕ) (verdict : Verdict) → book.limits ≡ limits_of header → book.capacity ≡ header.events
+    → KeepsUp book.history lines now verdict → IsBookOf header lines book verdict
+book_of header lines book now (Legal len) limits capacity keeps =
+    ap₂ (λ l n. record book { limits = l; capacity = n }) limits capacity
+    ∙ ap (λ h. record { limits = limits_of header; capacity = header.events; history = h }) keeps.0
+book_of header lines book now (NotLegal position outcome) limits capacity keeps = tt
+book_of header lines book now (WrongMoment position right) limits capacity keeps = tt
+
 pub told_len : (limits : Limits) (capacity : ℕ) (lines : List Line) (verdict : Verdict) → IsVerdict limits capacity lines verdict → len_told verdict ≤ length lines
 told_len limits capacity lines (Legal len) v = omega (arith, v.2)
 told_len limits capacity lines (NotLegal position outcome) v = omega arith
@@ -307,10 +316,11 @@ module _ (header : Header) (text : List ℕ) (book : Recording) (now : ℕ) (ver
       let end = subst (λ n. IsNext header n rest added End) c.counts is in
       record { lines = c.lines; are_lines = read_all header text c.lines rest c.read most end.0 end.1; is_verdict = checked_verdict }
 
-  pub checked_only : (added : Line) → IsNext header len rest added End → (all : List Line) → AreLines header text all → IsVerdict (limits_of header) header.events all verdict
+  pub checked_only : (added : Line) → IsNext header len rest added End → (all : List Line) → AreLines header text all → IsJudgedOn header all book verdict
   checked_only added is all a =
       let end = subst (λ n. IsNext header n rest added End) c.counts is in
-      subst (λ es. IsVerdict (limits_of header) header.events es verdict) (read_only header text c.lines rest c.read most end.0 end.1 all a) checked_verdict
+      subst (λ es. IsJudgedOn header es book verdict) (read_only header text c.lines rest c.read most end.0 end.1 all a)
+      (checked_verdict, book_of header c.lines book now verdict c.limits c.capacity c.judged.written)
 
   pub checked_no : (added : Line) (place : ℕ) → IsNext header len rest added (Fault place) → (all : List Line) → AreLines header text all → ⊥
   checked_no added place is = read_no header text c.lines rest c.read most place (subst (λ n. IsNext header n rest added (Fault place)) c.counts is)

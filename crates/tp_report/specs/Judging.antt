@@ -66,6 +66,10 @@ IsBookOf header lines book (Legal len) = book ≡ record { limits = limits_of he
 IsBookOf header lines book (NotLegal position outcome) = Unit {0}
 IsBookOf header lines book (WrongMoment position now) = Unit {0}
 
+-- this is the verdict on the history, and the machine on which it was played
+abbrev pub IsJudgedOn : Header → List Line → Recording → Verdict → Type 0
+IsJudgedOn header lines book verdict = IsVerdict (limits_of header) header.events lines verdict × IsBookOf header lines book verdict
+
 pub record IsSameMachine (old new : Recording) : Type 0 where
   pub limits : new.limits ≡ old.limits
   pub capacity : new.capacity ≡ old.capacity

@@ -6,7 +6,7 @@ ghost use Rattle.tp_report.specs.declared.headers.Header.{Header as FirstLine};
 ghost use Rattle.tp_report.specs.declared.lines.Line.{Line as HistoryLine};
 ghost use Rattle.tp_report.specs.Faults.{IsOrNoMemory, IsPlace};
 ghost use Rattle.tp_report.specs.Histories.{HasHeaderLine, IsHistory, IsHistoryFault, entries_of};
-ghost use Rattle.tp_report.specs.Judging.{AreLines, IsBookOf, IsLinesFault, IsVerdictBehind};
+ghost use Rattle.tp_report.specs.Judging.{AreLines, IsJudgedOn, IsLinesFault, IsVerdictBehind};
 ghost use Rattle.tp_report.specs.Verdicts.{IfLegal, IsJudged, IsLegalTold, IsVerdict, limits_of, migrated_text};
 
 use crate::faults::{CheckFault, fault_behind};
@@ -69,7 +69,7 @@ pub fn migrate<B: Recorded>(
 fn judge_all<B: Recorded>(alloc: Global, bytes: &[u8]) -> Result<(B, Verdict), CheckFault>
     ensures ok { IfOk result (λ judged. IsJudged bytes.now judged.1) }
     ensures only { (header : FirstLine) (lines : List HistoryLine) → IsHistory bytes.now header lines →
-        IsOrNoMemory (λ judged. IsVerdict (limits_of header) header.events lines judged.1 × IsBookOf header lines (B.recording judged.0) judged.1) result }
+        IsOrNoMemory (λ judged. IsJudgedOn header lines (B.recording judged.0) judged.1) result }
     ensures err { IfErr result (λ fault. IsPlace (IsHistoryFault bytes.now) fault) }
 {
     match read_header_line(bytes) {
@@ -91,7 +91,7 @@ fn judge_behind<B: Recorded>(
     requires { HasHeaderLine header }
     ensures ok { IfOk result (λ judged. IsVerdictBehind header text.now judged.1) }
     ensures only { (lines : List HistoryLine) → AreLines header text.now lines →
-        IsOrNoMemory (λ judged. IsVerdict (limits_of header) header.events lines judged.1 × IsBookOf header lines (B.recording judged.0) judged.1) result }
+        IsOrNoMemory (λ judged. IsJudgedOn header lines (B.recording judged.0) judged.1) result }
     ensures err { IfErr result (λ fault. IsPlace (IsLinesFault header text.now) fault) }
 {
     let mut book = B::open(alloc, header.limits(), header.events)?;

@@ -1,4 +1,4 @@
-//! The first and the last line of a history's text.
+//! The first line of a history's text in format 2, and the last.
 
 ghost use Rattle.std.specs.Prelude.{◌≡◌, ◌++◌, ◌∷◌, [], OnErr, OnOk};
 ghost use Rattle.tp_report.specs.Histories.{end_line, header_line, header_of};

@@ -7,12 +7,16 @@
 //! the machine was; its entries, a line each, in format 2 with the time of the clock before each; and the
 //! end line, with their number.
 //!
-//! Both take a text line by line: what is read is played at once on a machine that keeps its history, a
-//! `recorded::Recorded` of the caller's choice, and no list of the lines is kept. Both answer the place
+//! `migrate` judges a history as `check` does, and appends the text of a legal one in format 2, whichever
+//! format it was in.
+//!
+//! Each takes a text line by line: what is read is played at once on a machine that keeps its history, a
+//! `recorded::Recorded` of the caller's choice, and no list of the lines is kept. Each answers the place
 //! of the first fault of a text that isn't in the grammar.
 //!
-//! A `Written` is a machine that writes its history down as a text while it is made, and a `Counted` one
-//! that counts what the entries tell; `print_summary` and `print_json` append the totals of that.
+//! A `Written` is a machine that writes its history down as a text in format 2 while it is made, and a
+//! `Counted` one that counts what the entries tell; `print_summary` and `print_json` append the totals of
+//! that.
 //!
 //! ```text
 //! let size = MachineSize { workers: 4, events: 65_536 };
@@ -21,7 +25,8 @@
 //!
 //! let mut book = Written::<Book>::open(alloc, program_limits(1, 4), 65_536)?;
 //! book.step(Who::Client(1), Call::Finish);                       // Outcome::Done(Answer::Done)
-//! into_history(alloc, book)    // Ok((.., "history 1 clients 1 workers 4 events 65536\nc1 finish -> ok\nend 1\n"))
+//! into_history(alloc, book)
+//!     // Ok((.., "history 2 clients 1 workers 4 events 65536 objects 65535\n0 c1 finish -> ok\nend 1\n"))
 //! ```
 
 #![tactic(auto)]

@@ -1,4 +1,4 @@
-//! A machine that writes its history down as a text.
+//! A machine that writes its history down as a text, in format 2.
 
 ghost use Rattle.std.specs.Prelude.{◌≡◌, IfOk};
 ghost use Rattle.tp_report.specs.Histories.{history_told, IsReadBack};
@@ -18,7 +18,7 @@ use tp_lines::reserved::ReservedLines;
 /// A machine, and the lines of its history's entries, written as they are made.
 pub type Written<B> = Observed<B, WrittenLines>;
 
-/// The first line of a history, and those of its entries.
+/// The first line of a history, and those of its entries, each with its moment.
 ///
 /// The memory for the lines is taken where the history is opened, as much as the longest lines of the longest
 /// history need. What no line stands in isn't touched.

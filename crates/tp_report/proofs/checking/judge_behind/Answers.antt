@@ -1,12 +1,11 @@
 use Rattle.std.proofs.Common.{arith, subst, sym, ◌∙◌}
 use Rattle.tp_report.specs.Faults.{IsPlace}
-use Rattle.tp_report.specs.Judging.{IsLinesFault}
+use Rattle.tp_report.specs.Judging.{IsJudgedOn, IsLinesFault}
 use Rattle.tp_report.specs.Readings.{IsNext}
 use Rattle.tp_report.proofs.Places.{next_place}
 use Rattle.tp_report.proofs.SoFar.{checked_first, checked_next, checked_all, checked_only, checked_no, checked_fault, checked_few}
 use Rattle.tp_report.proofs.Unanswered.{or_no_memory}
-use Rattle.tp_report.specs.Verdicts.{IsVerdict, limits_of}
-use Rattle.tp_report.proofs.checking.check_behind.Goals as goal
+use Rattle.tp_report.proofs.checking.judge_behind.Goals as goal
 
 pub loop-book-init : goal.loop-book-init
 loop-book-init g c = (
@@ -62,4 +61,5 @@ returns-in-Fault-clause-err g c =
 
 pub returns-in_err-size-clause-only : goal.returns-in_err-size-clause-only
 returns-in_err-size-clause-only g c = λ all a.
-    let told = c.from_residual-in_err-size in or_no_memory (IsVerdict (limits_of c.args.header) c.args.header.events all) told.result told.ensures.1
+    let told = c.from_residual-in_err-size in
+    or_no_memory (λ judged. IsJudgedOn c.args.header all (g.B.Recorded.recording judged.0) judged.1) told.result told.ensures.1

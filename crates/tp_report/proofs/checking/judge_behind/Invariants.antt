@@ -1,7 +1,7 @@
 use Rattle.std.proofs.Common.{length}
 use Rattle.tp_report.specs.Readings.{IsStamp}
 use Rattle.tp_report.proofs.SoFar.{IsCheckedTo}
-use Rattle.tp_report.proofs.checking.check_behind.Given as goal
+use Rattle.tp_report.proofs.checking.judge_behind.Given as goal
 
 abbrev pub invariant-loop-book : goal.invariant-loop-book
 invariant-loop-book g l = IsCheckedTo l.header l.text (g.B.Recorded.recording l.book) l.now l.verdict l.len l.rest × IsStamp l.stamp

@@ -21,11 +21,11 @@ returns-then-not-is_moment-clause-judged g c = λ lines j.
     let new = g.B.Recorded.recording c.step_into.new.self in
     subst (λ v. IsJudgedTo new (lines ++ c.args.line.now ∷ []) c.clock_after.result v) (sym c.put_wrong_moment.ensures)
     (late old lines c.args.line.now c.args.now.now new c.in-Legal.len c.step_into.new.outcome (subst (λ v. IsJudgedTo old lines c.args.now.now v) c.in-Legal.is j)
-    c.step_into.ensures.history (c.if-not-is_answer.ensures.0 refl) c.step_into.ensures.legal c.clock_after.result c.clock_after.ensures (λ e. false_true (c.if-not-is_moment.ensures.1 e)))
+    c.step_into.ensures.history (c.if-not-is_answer.ensures.0 refl) c.step_into.ensures.legal c.clock_after.result (c.clock_after.ensures c.args.line.now.entry.who) (λ e. false_true (c.if-not-is_moment.ensures.1 e)))
 
 pub returns-clause-judged : goal.returns-clause-judged
 returns-clause-judged g c = λ lines j.
     let old = g.B.Recorded.recording c.args.book.now in
     let new = g.B.Recorded.recording c.step_into.new.self in
     right old lines c.args.line.now c.args.now.now new c.in-Legal.len c.step_into.new.outcome (subst (λ v. IsJudgedTo old lines c.args.now.now v) c.in-Legal.is j)
-    c.step_into.ensures.history (c.if-not-is_answer.ensures.0 refl) c.step_into.ensures.legal c.clock_after.result c.clock_after.ensures (c.if-not-is_moment.ensures.0 refl)
+    c.step_into.ensures.history (c.if-not-is_answer.ensures.0 refl) c.step_into.ensures.legal c.clock_after.result (c.clock_after.ensures c.args.line.now.entry.who) (c.if-not-is_moment.ensures.0 refl)
