@@ -4,7 +4,7 @@ ghost use Rattle.std.specs.Prelude.{◌≡◌, ◌∷◌, ℕ, List, MatchOption
 ghost use Rattle.script_lines.specs.declared.state.Place.{Place};
 ghost use Rattle.script_lines.specs.declared.words.Field.{Field};
 ghost use Rattle.script_lines.specs.declared.line.Token.{Token};
-ghost use Rattle.script_lines.specs.Known.{found_in, is_known, is_standing, within_section};
+ghost use Rattle.script_lines.specs.Known.{found_in, is_standing, within_section};
 ghost use Rattle.script_lines.specs.Tokens.{Fits, IsDueToken, IsNumberToken, armed_of, choice_of, fresh_kind, fresh_of, has_room, head_kind, is_at, is_head, is_option, is_pool_option, is_repeated, kind_of_field, may_stand, name_kind, name_of, numbered, routine_of, suits, token_of_word, word_at};
 
 use crate::fault::ScriptKind;
@@ -82,7 +82,7 @@ fn name_kind(known: &Known<'_>, word: &[u8]) -> ScriptKind
 {
     if !is_name(word) {
         ScriptKind::Unexpected
-    } else if is_known(known, word) {
+    } else if found_in(known, word).is_some() || known.routines.find(word).is_some() {
         ScriptKind::WrongName
     } else {
         ScriptKind::UnknownName
@@ -113,7 +113,9 @@ fn first_at(place: Place, field: Field, word: &[u8], words: &[Word]) -> Option<W
     words
         .iter()
         .copied()
-        .find(|known| is_at(place, field, word, *known))
+        .find(|known| {
+            word_text(*known) == word && may_stand(place, field, class_of(*known))
+        })
 }
 
 // The words of the table among which a word is, if it is one.
@@ -190,12 +192,6 @@ fn words_with(letter: u8) -> &'static [Word]
         ],
         _ => &WORDS,
     }
-}
-
-fn is_at(place: Place, field: Field, text: &[u8], word: Word) -> bool
-    ensures { result ≡ is_at place field text.now word }
-{
-    word_text(word) == text && may_stand(place, field, class_of(word))
 }
 
 // Whether there may be one more of what the word begins.
@@ -344,13 +340,6 @@ fn is_standing(known: &Known<'_>, tally: Tally, word: &[u8]) -> bool
         Tally::Locals => found_in(known, word).is_some(),
         _ => known.names.find(word).is_some(),
     }
-}
-
-// Whether the word is a name here, or that of a routine.
-fn is_known(known: &Known<'_>, word: &[u8]) -> bool
-    ensures { result ≡ is_known known.now word.now }
-{
-    found_in(known, word).is_some() || known.routines.find(word).is_some()
 }
 
 // What the word stands for here.

@@ -1,7 +1,7 @@
 //! A line of a script: what its words say.
 
 ghost use Rattle.std.specs.Prelude.{◌≡◌};
-ghost use Rattle.script_lines.specs.Lines.{above_zero, after, blank, count_of_repeats, form_of, in_place, is_optional, is_times, is_units_option, kind_in, may_end, narrowed, nothing, put, put_name, put_routine, put_word, with_head, without_units};
+ghost use Rattle.script_lines.specs.Lines.{after, blank, count_of_repeats, form_of, is_optional, is_times, kind_in, may_end, narrowed, nothing, put, put_name, put_routine, put_word, with_head};
 
 use crate::words::{Field, Sort, Tally, Want, Word, fields_of};
 use tp_base::calls::{Kind, Priority};
@@ -273,19 +273,12 @@ pub fn after(token: Token, left: &'static [Field]) -> &'static [Field]
     ensures { result.now ≡ after token left.now }
 {
     match token {
-        Token::Head(word) | Token::Word(word) => in_place(fields_of(word), left),
+        Token::Head(word) | Token::Word(word) => match fields_of(word) {
+            [] => left,
+            fields => fields,
+        },
         Token::Name(meaning) => narrowed(meaning.sort, left),
         _ => left,
-    }
-}
-
-// The fields, or those left where there are none.
-fn in_place(fields: &'static [Field], left: &'static [Field]) -> &'static [Field]
-    ensures { result.now ≡ in_place fields.now left.now }
-{
-    match fields {
-        [] => left,
-        [_, ..] => fields,
     }
 }
 
@@ -295,23 +288,11 @@ fn narrowed(sort: Sort, left: &'static [Field]) -> &'static [Field]
 {
     match sort {
         Sort::Semaphore => left,
-        _ => without_units(left),
+        _ => match left {
+            [Field::UnitsOption, ..] => &[],
+            _ => left,
+        },
     }
-}
-
-fn without_units(left: &'static [Field]) -> &'static [Field]
-    ensures { result.now ≡ without_units left.now }
-{
-    match left {
-        [first, ..] => if is_units_option(*first) { &[] } else { left },
-        [] => left,
-    }
-}
-
-fn is_units_option(field: Field) -> bool
-    ensures { result ≡ is_units_option field }
-{
-    matches!(field, Field::UnitsOption)
 }
 
 /// How a word of this field is written. The maximum of a semaphore isn't below the number before it.
@@ -355,7 +336,7 @@ pub fn form_of(field: Field, line: Line) -> Form
             most: 2_147_483_647,
         },
         Field::Limit => Form::Number {
-            least: above_zero(line.number),
+            least: if line.number < 1 { 1 } else { line.number },
             most: 2_147_483_647,
         },
         Field::Units | Field::UnitsOption => Form::Number {
@@ -363,12 +344,6 @@ pub fn form_of(field: Field, line: Line) -> Form
             most: 2_147_483_647,
         },
     }
-}
-
-fn above_zero(number: u64) -> u64
-    ensures { result ≡ above_zero number }
-{
-    if number < 1 { 1 } else { number }
 }
 
 /// Whether a line may end where these fields are left.
