@@ -1,7 +1,7 @@
 //! A line of a script: what its words say.
 
 ghost use Rattle.std.specs.Prelude.{◌≡◌};
-ghost use Rattle.script_lines.specs.Lines.{after, blank, count_of_repeats, form_of, is_optional, is_times, kind_in, may_end, narrowed, nothing, put, put_name, put_routine, put_word, with_head};
+ghost use Rattle.script_lines.specs.Lines.{after, blank, form_of, may_end, nothing, put, put_name, put_routine, put_word, with_head};
 
 use crate::words::{Field, Sort, Tally, Want, Word, fields_of};
 use tp_base::calls::{Kind, Priority};
@@ -161,24 +161,21 @@ impl Line {
     fn with_head(self, head: Word) -> Line
         ensures { result ≡ with_head self head }
     {
-        let times = self.count_of_repeats();
-        let kind = kind_in(head, self.kind);
+        let times = if matches!(self.head, Word::Times) && self.number <= 10_000 {
+            self.number as u16
+        } else {
+            1
+        };
+        let kind = match head {
+            Word::Object(kind) => kind,
+            _ => self.kind,
+        };
         Line {
             head,
             kind,
             times,
             number: 0,
             ..self
-        }
-    }
-
-    fn count_of_repeats(self) -> u16
-        ensures { result ≡ count_of_repeats self }
-    {
-        if is_times(self.head) && self.number <= 10_000 {
-            self.number as u16
-        } else {
-            1
         }
     }
 
@@ -250,23 +247,6 @@ impl Line {
     }
 }
 
-/// Whether the word is `times`.
-pub fn is_times(word: Word) -> bool
-    ensures { result ≡ is_times word }
-{
-    matches!(word, Word::Times)
-}
-
-// The kind of an object's declaration, or else the one before.
-fn kind_in(head: Word, before: Kind) -> Kind
-    ensures { result ≡ kind_in head before }
-{
-    match head {
-        Word::Object(kind) => kind,
-        _ => before,
-    }
-}
-
 /// What is left of a line behind a word of the field before `left`. A word that brings fields of its own puts them in
 /// the place of those.
 pub fn after(token: Token, left: &'static [Field]) -> &'static [Field]
@@ -277,21 +257,13 @@ pub fn after(token: Token, left: &'static [Field]) -> &'static [Field]
             [] => left,
             fields => fields,
         },
-        Token::Name(meaning) => narrowed(meaning.sort, left),
-        _ => left,
-    }
-}
-
-// Units behind a name are those of a semaphore.
-fn narrowed(sort: Sort, left: &'static [Field]) -> &'static [Field]
-    ensures { result.now ≡ narrowed sort left.now }
-{
-    match sort {
-        Sort::Semaphore => left,
-        _ => match left {
-            [Field::UnitsOption, ..] => &[],
+        // Units behind a name are those of a semaphore.
+        Token::Name(meaning) => match (meaning.sort, left) {
+            (Sort::Semaphore, _) => left,
+            (_, [Field::UnitsOption, ..]) => &[],
             _ => left,
         },
+        _ => left,
     }
 }
 
@@ -351,16 +323,10 @@ pub fn may_end(left: &'static [Field]) -> bool
     ensures { result ≡ may_end left.now }
 {
     match left {
-        [first, ..] => is_optional(*first),
+        [first, ..] => matches!(
+            first,
+            Field::UnitsOption | Field::Options(_) | Field::CancelOption | Field::PoolOptions(_)
+        ),
         [] => true,
     }
-}
-
-fn is_optional(field: Field) -> bool
-    ensures { result ≡ is_optional field }
-{
-    matches!(
-        field,
-        Field::UnitsOption | Field::Options(_) | Field::CancelOption | Field::PoolOptions(_)
-    )
 }

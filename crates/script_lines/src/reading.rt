@@ -86,22 +86,15 @@ fn step<'a>(known: &Known<'_>, trail: &Trail<'a>, word: &'a [u8]) -> Option<Trai
         ((next : Way) → Steps known.now (seen trail.now) word.now next → ⊥)
         (λ next. Steps known.now (seen trail.now) word.now (seen next)) }
 {
-    let (field, left) = first_field(trail.left)?;
-    let token = judge(known, field, trail.line, word)?;
+    let [field, left @ ..] = trail.left else {
+        return None;
+    };
+    let token = judge(known, *field, trail.line, word)?;
     Some(Trail {
         left: after(token, left),
         line: trail.line.put(token),
         name: name_with(token, word, trail.name),
     })
-}
-
-fn first_field(fields: &'static [Field]) -> Option<(Field, &'static [Field])>
-    ensures { MatchOption result (fields.now ≡ []) (λ first. fields.now ≡ first.0 ∷ first.1.now) }
-{
-    match fields {
-        [first, left @ ..] => Some((*first, left)),
-        [] => None,
-    }
 }
 
 fn name_with<'a>(token: Token, word: &'a [u8], name: &'a [u8]) -> &'a [u8]
