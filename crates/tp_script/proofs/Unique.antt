@@ -1,5 +1,5 @@
 -- A text is one script at most, has one first fault at most, and not both.
-use Rattle.std.proofs.Common.{◌≡◌, ℕ, ◌+◌, true, false, List, [], ◌∷◌, Err, sym, ap, ◌∙◌, subst, inl, inr}
+use Rattle.std.proofs.Common.{◌≡◌, ℕ, ◌+◌, false, List, [], ◌∷◌, Err, sym, ap, ◌∙◌, subst, inl, inr}
 use Rattle.std.proofs.lemmas.Bool.{true≢false}
 use Rattle.script_lines.specs.declared.judge.Known.{Known}
 use Rattle.script_lines.specs.declared.fault.ScriptKind.{ScriptKind}

@@ -3,7 +3,7 @@
 ghost use Rattle.std.specs.Prelude.{◌≡◌, ◌+◌, ◌≤◌, ◌<◌, ◌^◌, [], IfErr, IfOk, MatchResult, OnOk, length, vec_len};
 ghost use Rattle.script_lines.specs.Texts.{lines_of, words_from};
 ghost use Rattle.tp_script.specs.Answers.{IsAdded, IsLineFaultAt, IsScriptFault};
-ghost use Rattle.tp_script.specs.Scripts.{IsScript, is_local, known_after, named_by, routine_number, section_of, sort_made, sort_of_kind, with_routine, with_routine_behind, with_routine_name, with_routines};
+ghost use Rattle.tp_script.specs.Scripts.{IsScript, is_local, known_after, named_by, routine_number, sort_made, sort_of_kind, with_routine, with_routine_behind, with_routine_name, with_routines};
 
 use crate::fault::ScriptFault;
 use script_lines::{
@@ -210,22 +210,17 @@ pub fn is_local(head: Word) -> bool
     matches!(head, Word::Let | Word::IssueIo)
 }
 
-fn section_of(head: Word, state: State) -> u32
-    ensures { result ≡ section_of head state }
-{
-    if is_local(head) { state.section } else { 0 }
-}
-
 // What the new name of a line stands for, and where.
 fn named_by(line: Line, state: State) -> Named
     ensures { result ≡ named_by line state }
 {
+    let local = is_local(line.head);
     Named {
         meaning: Meaning {
             sort: sort_made(line.head, line.kind),
-            local: is_local(line.head),
+            local,
             number: line.made,
         },
-        section: section_of(line.head, state),
+        section: if local { state.section } else { 0 },
     }
 }
