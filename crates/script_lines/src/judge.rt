@@ -4,12 +4,12 @@ ghost use Rattle.std.specs.Prelude.{◌≡◌, ◌∷◌, ℕ, List, MatchOption
 ghost use Rattle.script_lines.specs.declared.state.Place.{Place};
 ghost use Rattle.script_lines.specs.declared.words.Field.{Field};
 ghost use Rattle.script_lines.specs.declared.line.Token.{Token};
-ghost use Rattle.script_lines.specs.Known.{found_in, is_standing, within_section};
-ghost use Rattle.script_lines.specs.Tokens.{Fits, IsDueToken, IsNumberToken, armed_of, choice_of, fresh_kind, fresh_of, has_room, is_at, is_head, is_repeated, kind_of_field, may_stand, name_kind, name_of, suits, token_of_word, word_at};
+ghost use Rattle.script_lines.specs.Known.{found_in, is_standing};
+ghost use Rattle.script_lines.specs.Tokens.{Fits, IsDueToken, IsNumberToken, armed_of, choice_of, fresh_kind, fresh_of, is_at, is_head, is_repeated, kind_of_field, may_stand, name_kind, name_of, suits, token_of_word, word_at};
 
 use crate::fault::ScriptKind;
 use crate::line::{Form, Line, Meaning, Token, form_of};
-use crate::names::{Named, Table};
+use crate::names::Table;
 use crate::state::{Place, State, limit_of};
 use crate::texts::is_name;
 use crate::words::{Class, Field, Sort, Tally, WORDS, Want, Word, class_of, word_text};
@@ -91,10 +91,11 @@ fn choice_of(state: State, field: Field, word: &[u8]) -> Option<Token>
     ensures { result ≡ choice_of state field word.now }
 {
     let found = word_at(state.place, field, word)?;
-    if has_room(state, found) {
-        Some(token_of_word(field, found))
-    } else {
+    // A script begins 15 clients at most.
+    if matches!(found, Word::Client) && 15 <= state.clients {
         None
+    } else {
+        Some(token_of_word(field, found))
     }
 }
 
@@ -185,16 +186,6 @@ fn words_with(letter: u8) -> &'static [Word]
             Word::Kind(Kind::Wait),
         ],
         _ => &WORDS,
-    }
-}
-
-// Whether there may be one more of what the word begins.
-fn has_room(state: State, word: Word) -> bool
-    ensures { result ≡ has_room state word }
-{
-    match word {
-        Word::Client => state.clients < 15,
-        _ => true,
     }
 }
 
@@ -317,13 +308,8 @@ fn is_standing(known: &Known<'_>, tally: Tally, word: &[u8]) -> bool
 fn found_in(known: &Known<'_>, word: &[u8]) -> Option<Meaning>
     ensures { result ≡ found_in known.now word.now }
 {
-    within_section(known.names.find(word)?, known.state.section)
-}
-
-fn within_section(named: Named, section: u32) -> Option<Meaning>
-    ensures { result ≡ within_section named section }
-{
-    if named.section == 0 || named.section == section {
+    let named = known.names.find(word)?;
+    if named.section == 0 || named.section == known.state.section {
         Some(named.meaning)
     } else {
         None
