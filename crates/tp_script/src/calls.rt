@@ -327,17 +327,10 @@ fn object_at(line: Line, locals: &[u64; 32]) -> ObjectId
 fn number_at(meaning: Meaning, locals: &[u64; 32]) -> u64
     ensures { result ≡ number_at meaning locals.now }
 {
-    if meaning.local {
-        local_number(meaning.number, locals)
-    } else {
-        u64::from(meaning.number)
-    }
-}
-
-fn local_number(number: u16, locals: &[u64; 32]) -> u64
-    ensures { result ≡ local_number number locals.now }
-{
-    if 1 <= number && number <= 32 {
+    let number = meaning.number;
+    if !meaning.local {
+        u64::from(number)
+    } else if 1 <= number && number <= 32 {
         locals[usize::from(number - 1)]
     } else {
         0

@@ -12,7 +12,7 @@ ghost use Rattle.tp_script.specs.Scripts.{IsFaultIn, IsScript, is_local};
 ghost use Rattle.tp_base.specs.Ranges.{IsCallInRange};
 ghost use Rattle.tp_script.specs.Calls.{IsOfPart};
 ghost use Rattle.tp_script.specs.Machines.{HasFewClients, NeverWaitsAtFirst};
-ghost use Rattle.tp_script.specs.Nexts.{call_at, clients_of, line_after, line_at, number_in, numbered_place, opens, place_of, places_behind, stepped, waited, with_local};
+ghost use Rattle.tp_script.specs.Nexts.{call_at, clients_of, line_after, line_at, number_in, numbered_place, opens, place_of, places_behind, stepped, waited};
 
 use crate::calls::{acts, begins_wait, call_of, calls_in};
 use crate::fault::ScriptFault;
@@ -226,8 +226,8 @@ fn line_after(line: &Line, at: &mut Progress, answer: Answer)
         waited(calls_in(*line), at, answer);
     } else {
         // A name that the line makes stands for the number in the answer.
-        if is_local(line.head) {
-            with_local(&mut at.locals, line.made, number_in(answer));
+        if is_local(line.head) && 1 <= line.made && line.made <= 32 {
+            at.locals[usize::from(line.made - 1)] = number_in(answer);
         }
         stepped(calls_in(*line), at);
     }
@@ -260,14 +260,6 @@ fn stepped(calls: u32, at: &mut Progress)
     } else {
         at.op += 1;
         at.done = 0;
-    }
-}
-
-fn with_local(locals: &mut [u64; 32], made: u16, number: u64)
-    ensures { locals.new ≡ with_local locals.old made number }
-{
-    if 1 <= made && made <= 32 {
-        locals[usize::from(made - 1)] = number;
     }
 }
 
