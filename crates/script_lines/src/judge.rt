@@ -4,12 +4,12 @@ ghost use Rattle.std.specs.Prelude.{◌≡◌, ◌∷◌, ℕ, List, MatchOption
 ghost use Rattle.script_lines.specs.declared.state.Place.{Place};
 ghost use Rattle.script_lines.specs.declared.words.Field.{Field};
 ghost use Rattle.script_lines.specs.declared.line.Token.{Token};
-ghost use Rattle.script_lines.specs.Known.{found_in, is_known, is_standing, within_section};
-ghost use Rattle.script_lines.specs.Tokens.{Fits, IsDueToken, IsNumberToken, armed_of, choice_of, fresh_kind, fresh_of, has_room, head_kind, is_at, is_head, is_option, is_pool_option, is_repeated, kind_of_field, may_stand, name_kind, name_of, numbered, routine_of, suits, token_of_word, word_at};
+ghost use Rattle.script_lines.specs.Known.{found_in, is_standing};
+ghost use Rattle.script_lines.specs.Tokens.{Fits, IsDueToken, IsNumberToken, armed_of, choice_of, fresh_kind, fresh_of, is_at, is_head, is_repeated, kind_of_field, may_stand, name_kind, name_of, suits, token_of_word, word_at};
 
 use crate::fault::ScriptKind;
 use crate::line::{Form, Line, Meaning, Token, form_of};
-use crate::names::{Named, Table};
+use crate::names::Table;
 use crate::state::{Place, State, limit_of};
 use crate::texts::is_name;
 use crate::words::{Class, Field, Sort, Tally, WORDS, Want, Word, class_of, word_text};
@@ -39,7 +39,10 @@ pub fn judge(known: &Known<'_>, field: Field, line: Line, word: &[u8]) -> Option
         Form::Fresh(tally) => fresh_of(known, tally, word),
         Form::Name(want) => name_of(known, want, word),
         Form::Armed => armed_of(known, word),
-        Form::Routine => routine_of(known, word),
+        Form::Routine => {
+            let named = known.routines.find(word)?;
+            Some(Token::Routine(named.meaning.number))
+        }
     }
 }
 
@@ -48,20 +51,14 @@ pub fn kind_of_field(known: &Known<'_>, field: Field, word: &[u8]) -> ScriptKind
     ensures { result ≡ kind_of_field known.now field word.now }
 {
     match field {
-        Field::Head => head_kind(known.state, word),
+        // A word that may begin a line here, and may not, is one more client.
+        Field::Head => match word_at(known.state.place, Field::Head, word) {
+            Some(_) => ScriptKind::TooMany,
+            None => ScriptKind::Unexpected,
+        },
         Field::Fresh(tally) => fresh_kind(known, tally, word),
         Field::Name(_) | Field::Armed | Field::Routine => name_kind(known, word),
         _ => ScriptKind::Unexpected,
-    }
-}
-
-// A word that may begin a line here, and may not, is one more client.
-fn head_kind(state: State, word: &[u8]) -> ScriptKind
-    ensures { result ≡ head_kind state word.now }
-{
-    match word_at(state.place, Field::Head, word) {
-        Some(_) => ScriptKind::TooMany,
-        None => ScriptKind::Unexpected,
     }
 }
 
@@ -82,7 +79,7 @@ fn name_kind(known: &Known<'_>, word: &[u8]) -> ScriptKind
 {
     if !is_name(word) {
         ScriptKind::Unexpected
-    } else if is_known(known, word) {
+    } else if found_in(known, word).is_some() || known.routines.find(word).is_some() {
         ScriptKind::WrongName
     } else {
         ScriptKind::UnknownName
@@ -94,10 +91,11 @@ fn choice_of(state: State, field: Field, word: &[u8]) -> Option<Token>
     ensures { result ≡ choice_of state field word.now }
 {
     let found = word_at(state.place, field, word)?;
-    if has_room(state, found) {
-        Some(token_of_word(field, found))
-    } else {
+    // A script begins 15 clients at most.
+    if matches!(found, Word::Client) && 15 <= state.clients {
         None
+    } else {
+        Some(token_of_word(field, found))
     }
 }
 
@@ -110,10 +108,9 @@ fn word_at(place: Place, field: Field, word: &[u8]) -> Option<Word>
 fn first_at(place: Place, field: Field, word: &[u8], words: &[Word]) -> Option<Word>
     ensures { result ≡ find (is_at place field word.now) words.now }
 {
-    words
-        .iter()
-        .copied()
-        .find(|known| is_at(place, field, word, *known))
+    words.iter().copied().find(|known| {
+        word_text(*known) == word && may_stand(place, field, class_of(*known))
+    })
 }
 
 // The words of the table among which a word is, if it is one.
@@ -192,22 +189,6 @@ fn words_with(letter: u8) -> &'static [Word]
     }
 }
 
-fn is_at(place: Place, field: Field, text: &[u8], word: Word) -> bool
-    ensures { result ≡ is_at place field text.now word }
-{
-    word_text(word) == text && may_stand(place, field, class_of(word))
-}
-
-// Whether there may be one more of what the word begins.
-fn has_room(state: State, word: Word) -> bool
-    ensures { result ≡ has_room state word }
-{
-    match word {
-        Word::Client => state.clients < 15,
-        _ => true,
-    }
-}
-
 fn token_of_word(field: Field, word: Word) -> Token
     ensures { result ≡ token_of_word field word }
 {
@@ -224,9 +205,9 @@ fn may_stand(place: Place, field: Field, class: Class) -> bool
     match field {
         Field::Head => is_head(place, class),
         Field::Repeated => is_repeated(place, class),
-        Field::Options(first) => is_option(first, class),
+        Field::Options(first) => matches!(class, Class::Option(order) if first <= order),
         Field::CancelOption => matches!(class, Class::Cancel),
-        Field::PoolOptions(first) => is_pool_option(first, class),
+        Field::PoolOptions(first) => matches!(class, Class::PoolOption(order) if first <= order),
         Field::Kind => matches!(class, Class::Kind),
         Field::Priority => matches!(class, Class::Priority),
         Field::How => matches!(class, Class::How),
@@ -257,24 +238,6 @@ fn is_repeated(place: Place, class: Class) -> bool
     match class {
         Class::Operation => place.is_inside(),
         Class::Own => place.is_in_routine(),
-        _ => false,
-    }
-}
-
-fn is_option(first: u8, class: Class) -> bool
-    ensures { result ≡ is_option first class }
-{
-    match class {
-        Class::Option(order) => first <= order,
-        _ => false,
-    }
-}
-
-fn is_pool_option(first: u8, class: Class) -> bool
-    ensures { result ≡ is_pool_option first class }
-{
-    match class {
-        Class::PoolOption(order) => first <= order,
         _ => false,
     }
 }
@@ -323,13 +286,8 @@ fn fresh_of(known: &Known<'_>, tally: Tally, word: &[u8]) -> Option<Token>
     if is_standing(known, tally, word) {
         return None;
     }
-    numbered(known.state.count_of(tally), limit_of(tally))
-}
-
-fn numbered(count: u16, limit: u16) -> Option<Token>
-    ensures { result ≡ numbered count limit }
-{
-    if count < limit {
+    let count = known.state.count_of(tally);
+    if count < limit_of(tally) {
         Some(Token::Fresh(count + 1))
     } else {
         None
@@ -346,24 +304,12 @@ fn is_standing(known: &Known<'_>, tally: Tally, word: &[u8]) -> bool
     }
 }
 
-// Whether the word is a name here, or that of a routine.
-fn is_known(known: &Known<'_>, word: &[u8]) -> bool
-    ensures { result ≡ is_known known.now word.now }
-{
-    found_in(known, word).is_some() || known.routines.find(word).is_some()
-}
-
 // What the word stands for here.
 fn found_in(known: &Known<'_>, word: &[u8]) -> Option<Meaning>
     ensures { result ≡ found_in known.now word.now }
 {
-    within_section(known.names.find(word)?, known.state.section)
-}
-
-fn within_section(named: Named, section: u32) -> Option<Meaning>
-    ensures { result ≡ within_section named section }
-{
-    if named.section == 0 || named.section == section {
+    let named = known.names.find(word)?;
+    if named.section == 0 || named.section == known.state.section {
         Some(named.meaning)
     } else {
         None
@@ -389,13 +335,6 @@ fn armed_of(known: &Known<'_>, word: &[u8]) -> Option<Token>
     } else {
         name_of(known, Want::Kernel, word)
     }
-}
-
-fn routine_of(known: &Known<'_>, word: &[u8]) -> Option<Token>
-    ensures { result ≡ routine_of known.now word.now }
-{
-    let named = known.routines.find(word)?;
-    Some(Token::Routine(named.meaning.number))
 }
 
 // Whether what the name stands for is what is wanted.

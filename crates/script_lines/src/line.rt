@@ -1,7 +1,7 @@
 //! A line of a script: what its words say.
 
 ghost use Rattle.std.specs.Prelude.{◌≡◌};
-ghost use Rattle.script_lines.specs.Lines.{above_zero, after, blank, count_of_repeats, form_of, in_place, is_optional, is_times, is_units_option, kind_in, may_end, narrowed, nothing, put, put_name, put_routine, put_word, with_head, without_units};
+ghost use Rattle.script_lines.specs.Lines.{after, blank, form_of, may_end, nothing, put, put_name, put_routine, put_word, with_head};
 
 use crate::words::{Field, Sort, Tally, Want, Word, fields_of};
 use tp_base::calls::{Kind, Priority};
@@ -161,24 +161,21 @@ impl Line {
     fn with_head(self, head: Word) -> Line
         ensures { result ≡ with_head self head }
     {
-        let times = self.count_of_repeats();
-        let kind = kind_in(head, self.kind);
+        let times = if matches!(self.head, Word::Times) && self.number <= 10_000 {
+            self.number as u16
+        } else {
+            1
+        };
+        let kind = match head {
+            Word::Object(kind) => kind,
+            _ => self.kind,
+        };
         Line {
             head,
             kind,
             times,
             number: 0,
             ..self
-        }
-    }
-
-    fn count_of_repeats(self) -> u16
-        ensures { result ≡ count_of_repeats self }
-    {
-        if is_times(self.head) && self.number <= 10_000 {
-            self.number as u16
-        } else {
-            1
         }
     }
 
@@ -250,68 +247,24 @@ impl Line {
     }
 }
 
-/// Whether the word is `times`.
-pub fn is_times(word: Word) -> bool
-    ensures { result ≡ is_times word }
-{
-    matches!(word, Word::Times)
-}
-
-// The kind of an object's declaration, or else the one before.
-fn kind_in(head: Word, before: Kind) -> Kind
-    ensures { result ≡ kind_in head before }
-{
-    match head {
-        Word::Object(kind) => kind,
-        _ => before,
-    }
-}
-
 /// What is left of a line behind a word of the field before `left`. A word that brings fields of its own puts them in
 /// the place of those.
 pub fn after(token: Token, left: &'static [Field]) -> &'static [Field]
     ensures { result.now ≡ after token left.now }
 {
     match token {
-        Token::Head(word) | Token::Word(word) => in_place(fields_of(word), left),
-        Token::Name(meaning) => narrowed(meaning.sort, left),
+        Token::Head(word) | Token::Word(word) => match fields_of(word) {
+            [] => left,
+            fields => fields,
+        },
+        // Units behind a name are those of a semaphore.
+        Token::Name(meaning) => match (meaning.sort, left) {
+            (Sort::Semaphore, _) => left,
+            (_, [Field::UnitsOption, ..]) => &[],
+            _ => left,
+        },
         _ => left,
     }
-}
-
-// The fields, or those left where there are none.
-fn in_place(fields: &'static [Field], left: &'static [Field]) -> &'static [Field]
-    ensures { result.now ≡ in_place fields.now left.now }
-{
-    match fields {
-        [] => left,
-        [_, ..] => fields,
-    }
-}
-
-// Units behind a name are those of a semaphore.
-fn narrowed(sort: Sort, left: &'static [Field]) -> &'static [Field]
-    ensures { result.now ≡ narrowed sort left.now }
-{
-    match sort {
-        Sort::Semaphore => left,
-        _ => without_units(left),
-    }
-}
-
-fn without_units(left: &'static [Field]) -> &'static [Field]
-    ensures { result.now ≡ without_units left.now }
-{
-    match left {
-        [first, ..] => if is_units_option(*first) { &[] } else { left },
-        [] => left,
-    }
-}
-
-fn is_units_option(field: Field) -> bool
-    ensures { result ≡ is_units_option field }
-{
-    matches!(field, Field::UnitsOption)
 }
 
 /// How a word of this field is written. The maximum of a semaphore isn't below the number before it.
@@ -355,7 +308,7 @@ pub fn form_of(field: Field, line: Line) -> Form
             most: 2_147_483_647,
         },
         Field::Limit => Form::Number {
-            least: above_zero(line.number),
+            least: if line.number < 1 { 1 } else { line.number },
             most: 2_147_483_647,
         },
         Field::Units | Field::UnitsOption => Form::Number {
@@ -365,27 +318,15 @@ pub fn form_of(field: Field, line: Line) -> Form
     }
 }
 
-fn above_zero(number: u64) -> u64
-    ensures { result ≡ above_zero number }
-{
-    if number < 1 { 1 } else { number }
-}
-
 /// Whether a line may end where these fields are left.
 pub fn may_end(left: &'static [Field]) -> bool
     ensures { result ≡ may_end left.now }
 {
     match left {
-        [first, ..] => is_optional(*first),
+        [first, ..] => matches!(
+            first,
+            Field::UnitsOption | Field::Options(_) | Field::CancelOption | Field::PoolOptions(_)
+        ),
         [] => true,
     }
-}
-
-fn is_optional(field: Field) -> bool
-    ensures { result ≡ is_optional field }
-{
-    matches!(
-        field,
-        Field::UnitsOption | Field::Options(_) | Field::CancelOption | Field::PoolOptions(_)
-    )
 }

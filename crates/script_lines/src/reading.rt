@@ -1,7 +1,7 @@
 //! One line of a script, word by word.
 
 ghost use Rattle.std.specs.Prelude.{◌≡◌, ◌+◌, ◌<◌, ◌^◌, [], ◌∷◌, MatchOption, MatchResult, length};
-ghost use Rattle.script_lines.specs.Readings.{IsLineFault, IsLineRead, Steps, Trail as Way, first_trail, kind_at, name_with};
+ghost use Rattle.script_lines.specs.Readings.{IsLineFault, IsLineRead, Steps, Trail as Way, kind_at};
 ghost use Rattle.script_lines.specs.Seen.{seen};
 ghost use Rattle.script_lines.specs.Texts.{words_from};
 
@@ -44,7 +44,11 @@ pub fn read_line<'a>(known: &Known<'_>, text: &'a [u8]) -> Result<LineRead<'a>, 
         (λ read. IsLineRead known.now (words_from 1 text.now) read.line read.name.now)
         (λ fault. IsLineFault known.now (words_from 1 text.now) fault.column fault.kind) }
 {
-    let mut trail = first_trail();
+    let mut trail = Trail {
+        left: &[Field::Head],
+        line: Line::blank(),
+        name: &[],
+    };
     let mut rest = text;
     let mut column: u32 = 1;
     while let Some(spot) = next_word(column, rest) {
@@ -70,47 +74,24 @@ pub fn read_line<'a>(known: &Known<'_>, text: &'a [u8]) -> Result<LineRead<'a>, 
     })
 }
 
-fn first_trail() -> Trail<'static>
-    ensures { seen result ≡ first_trail }
-{
-    Trail {
-        left: &[Field::Head],
-        line: Line::blank(),
-        name: &[],
-    }
-}
-
 // The trail behind one more word, or None where it may not stand next.
 fn step<'a>(known: &Known<'_>, trail: &Trail<'a>, word: &'a [u8]) -> Option<Trail<'a>>
     ensures { MatchOption result
         ((next : Way) → Steps known.now (seen trail.now) word.now next → ⊥)
         (λ next. Steps known.now (seen trail.now) word.now (seen next)) }
 {
-    let (field, left) = first_field(trail.left)?;
-    let token = judge(known, field, trail.line, word)?;
+    let [field, left @ ..] = trail.left else {
+        return None;
+    };
+    let token = judge(known, *field, trail.line, word)?;
     Some(Trail {
         left: after(token, left),
         line: trail.line.put(token),
-        name: name_with(token, word, trail.name),
+        name: match token {
+            Token::Fresh(_) => word,
+            _ => trail.name,
+        },
     })
-}
-
-fn first_field(fields: &'static [Field]) -> Option<(Field, &'static [Field])>
-    ensures { MatchOption result (fields.now ≡ []) (λ first. fields.now ≡ first.0 ∷ first.1.now) }
-{
-    match fields {
-        [first, left @ ..] => Some((*first, left)),
-        [] => None,
-    }
-}
-
-fn name_with<'a>(token: Token, word: &'a [u8], name: &'a [u8]) -> &'a [u8]
-    ensures { result.now ≡ name_with token word.now name.now }
-{
-    match token {
-        Token::Fresh(_) => word,
-        _ => name,
-    }
 }
 
 // Why a word may not stand next, where it may not.

@@ -163,7 +163,11 @@ impl State {
     fn with_section(self, place: Place) -> State
         ensures { result ≡ with_section self place }
     {
-        let section = raised_section(self.section);
+        let section = if self.section < 65_550 {
+            self.section + 1
+        } else {
+            self.section
+        };
         State {
             place,
             locals: 0,
@@ -192,10 +196,4 @@ fn raised(count: u16, limit: u16) -> u16
     ensures { result ≡ raised count limit }
 {
     if count < limit { count + 1 } else { count }
-}
-
-fn raised_section(count: u32) -> u32
-    ensures { result ≡ raised count 65550 }
-{
-    if count < 65_550 { count + 1 } else { count }
 }

@@ -1,7 +1,7 @@
 //! The lines of a text, and the words of a line.
 
 ghost use Rattle.std.specs.Prelude.{◌≡◌, ◌+◌, ◌<◌, ◌≤◌, ◌^◌, ℕ, [], ◌∷◌, MatchOption, drop, false, length};
-ghost use Rattle.script_lines.specs.Texts.{are_name_bytes, begins_with_space, is_blank, is_first_byte, is_name, is_name_byte, lines_of, without_first, words_from};
+ghost use Rattle.script_lines.specs.Texts.{are_name_bytes, begins_with_space, is_blank, is_first_byte, is_name, lines_of, without_first, words_from};
 
 use line_grammar::words::size_before;
 
@@ -106,17 +106,14 @@ fn is_first_byte(byte: u8) -> bool
     b'a' <= byte && byte <= b'z'
 }
 
-fn is_name_byte(byte: u8) -> bool
-    ensures { result ≡ is_name_byte byte }
-{
-    is_first_byte(byte) || b'0' <= byte && byte <= b'9' || byte == b'_'
-}
-
 fn are_name_bytes(bytes: &[u8]) -> bool
     ensures { result ≡ are_name_bytes bytes.now }
 {
     match bytes {
-        [byte, rest @ ..] => is_name_byte(*byte) && are_name_bytes(rest),
+        [byte, rest @ ..] => {
+            let fits = is_first_byte(*byte) || b'0' <= *byte && *byte <= b'9' || *byte == b'_';
+            fits && are_name_bytes(rest)
+        }
         [] => true,
     }
 }

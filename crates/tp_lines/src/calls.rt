@@ -5,7 +5,6 @@ ghost use Rattle.line_grammar.specs.Language.{IsRead};
 ghost use Rattle.tp_lines.specs.Calls.{CallLines, CallTexts, WhoTexts, call_at, environ_at, environ_parts, row_of};
 ghost use Rattle.tp_lines.specs.Parts.{parts_text, row_text};
 ghost use Rattle.tp_lines.specs.Words.{text_of_who};
-ghost use Rattle.tp_lines.specs.Actors.{ClientTexts, WorkerTexts};
 ghost use Rattle.tp_lines.specs.Writing.{IsPut};
 
 use crate::line::parts;
@@ -186,26 +185,14 @@ pub(crate) fn read_who(text: &[u8]) -> Result<(Who, usize), usize>
     ensures { IsRead WhoTexts text.now result }
 {
     match behind(b'w', text) {
-        Some(_) => read_worker(text),
-        None => read_client(text),
-    }
-}
-
-fn read_client(text: &[u8]) -> Result<(Who, usize), usize>
-    ensures { IsRead ClientTexts text.now result }
-{
-    match read_prefixed(b'c', text, 1, 16) {
-        Ok((number, size)) => Ok((Who::Client(number as u32), size)),
-        Err(place) => Err(place),
-    }
-}
-
-fn read_worker(text: &[u8]) -> Result<(Who, usize), usize>
-    ensures { IsRead WorkerTexts text.now result }
-{
-    match read_prefixed(b'w', text, 1, 64) {
-        Ok((number, size)) => Ok((Who::Worker(number as u32), size)),
-        Err(place) => Err(place),
+        Some(_) => match read_prefixed(b'w', text, 1, 64) {
+            Ok((number, size)) => Ok((Who::Worker(number as u32), size)),
+            Err(place) => Err(place),
+        },
+        None => match read_prefixed(b'c', text, 1, 16) {
+            Ok((number, size)) => Ok((Who::Client(number as u32), size)),
+            Err(place) => Err(place),
+        },
     }
 }
 

@@ -5,7 +5,7 @@ ghost use Rattle.line_grammar.specs.Language.{IsRead};
 ghost use Rattle.tp_lines.specs.declared.parts.Part.{Part};
 ghost use Rattle.tp_lines.specs.declared.words.Word.{Word};
 ghost use Rattle.tp_lines.specs.Choices.{BodyTexts, ChoiceTexts, DueTexts, KernelTexts, Met, NamedTexts, PartTexts, default_word};
-ghost use Rattle.tp_lines.specs.Parts.{after, form_of, instead_of, most_of, number_part};
+ghost use Rattle.tp_lines.specs.Parts.{after, form_of, most_of, number_part};
 ghost use Rattle.tp_lines.specs.Values.{action_of, due_of, flag_of, how_of, kind_of, large_of, length_of, lock_of, named_of, owner_of, part_at, persistent_of, priority_of, reset_of, signal_of, slot_of, small_of, word_of};
 
 use crate::words::{Field, WORDS, Word, fields_of, find_word, stands_in, word_text};
@@ -357,26 +357,16 @@ pub fn after(part: Part, left: &'static [Field]) -> &'static [Field]
     ensures { result.now ≡ after part left.now }
 {
     match part {
-        Part::Word(word) => instead_of(fields_of(word), left),
+        Part::Word(word) => match fields_of(word) {
+            [] => left,
+            own => own,
+        },
         Part::Group(0) => &[Field::NoCancel],
         _ => left,
     }
 }
 
-fn instead_of(own: &'static [Field], left: &'static [Field]) -> &'static [Field]
-    ensures { result.now ≡ instead_of own.now left.now }
-{
-    if own.is_empty() { left } else { own }
-}
-
-// Of the words of a field, the one that goes furthest along with the text.
-fn furthest_word(field: Field, text: &[u8]) -> Result<(Word, usize), usize>
-    requires { form_of field ≡ Form.Choice }
-    ensures { IsRead (ChoiceTexts field) text.now result }
-{
-    furthest_among(field, &WORDS, text)
-}
-
+// Of the words that stand in the field, the one that goes furthest along with the text.
 fn furthest_among(field: Field, words: &[Word], text: &[u8]) -> Result<(Word, usize), usize>
     ensures { IsRead (Met field (default_word field) words.now) text.now result }
 {
@@ -443,7 +433,7 @@ fn read_choice(field: Field, text: &[u8]) -> Result<(Word, usize), usize>
     let (word, _) = text.split_at(size);
     match find_word(field, word) {
         Some(found) => Ok((found, size)),
-        None => furthest_word(field, text),
+        None => furthest_among(field, &WORDS, text),
     }
 }
 

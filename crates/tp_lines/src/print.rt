@@ -1,7 +1,7 @@
 //! Printing of what calls come to, and writing of entries.
 
 ghost use Rattle.std.specs.Prelude.{◌≡◌, ◌+◌, ◌≤◌, ◌++◌, ◌∷◌, [], ℕ, List, IfOk, OnErr, OnOk, length, take};
-ghost use Rattle.tp_lines.specs.Answers.{line_of_entry, text_of_full, text_of_look, text_of_outcome};
+ghost use Rattle.tp_lines.specs.Answers.{line_of_entry, text_of_look, text_of_outcome};
 ghost use Rattle.tp_lines.specs.Writing.{IsPut};
 
 use crate::answers::put_answer;
@@ -138,16 +138,10 @@ fn put_outcome(outcome: &Outcome, out: &mut [u8], at: usize) -> usize
     match outcome {
         Outcome::Done(answer) => put_answer(answer, out, at),
         Outcome::Look(look) => put_look(look, out, at),
-        Outcome::Full { room, cost } => put_full(*room, *cost, out, at),
+        Outcome::Full { room, cost } => {
+            parts!(out, at; first(Word::Full) number(*room) number(*cost))
+        }
     }
-}
-
-#[inline(always)]
-fn put_full(room: u64, cost: u64, out: &mut [u8], at: usize) -> usize
-    requires { at + 250 ≤ length out.old }
-    ensures { IsPut at out.old result out.new (text_of_full room cost) 250 }
-{
-    parts!(out, at; first(Word::Full) number(room) number(cost))
 }
 
 #[inline(always)]

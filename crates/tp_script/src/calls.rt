@@ -136,7 +136,11 @@ pub fn call_of(line: &Line, done: u32, locals: &[u64; 32]) -> Option<Call>
             kernel: kernel_of(*line),
         }),
         Word::Advance => Some(Call::Advance {
-            ticks: ticks_of(line.number),
+            ticks: if line.number <= CLOCK_END {
+                line.number
+            } else {
+                0
+            },
         }),
         Word::MayRunLong => Some(Call::MayRunLong),
         Word::Disassociate => Some(Call::Disassociate),
@@ -176,23 +180,17 @@ fn pool_call(line: Line, done: u32) -> Call
     } else if done == 1 && line.maximum {
         Call::SetMaximum {
             pool: pool_of(line.made),
-            value: maximum_of(line),
+            value: small_of(if line.minimum {
+                line.before
+            } else {
+                line.number
+            }),
         }
     } else {
         Call::SetMinimum {
             pool: pool_of(line.made),
             value: small_of(line.number),
         }
-    }
-}
-
-fn maximum_of(line: Line) -> u32
-    ensures { result ≡ maximum_of line }
-{
-    if line.minimum {
-        small_of(line.before)
-    } else {
-        small_of(line.number)
     }
 }
 
@@ -232,13 +230,6 @@ fn small_of(number: u64) -> u32
     }
 }
 
-fn id_of(number: u64) -> u32
-    ensures value { result ≡ id_of number }
-    ensures in_range { result ≤ 65535 }
-{
-    if number <= 65_535 { number as u32 } else { 0 }
-}
-
 fn level_of(number: u64) -> u32
     ensures value { result ≡ level_of number }
     ensures in_range { result ≤ count_most }
@@ -260,13 +251,6 @@ fn units_of(number: u64) -> u32
     } else {
         1
     }
-}
-
-fn ticks_of(number: u64) -> u64
-    ensures value { result ≡ ticks_of number }
-    ensures in_range { result ≤ clock_end }
-{
-    if number <= CLOCK_END { number } else { 0 }
 }
 
 fn routine_by(line: Line) -> RoutineId
@@ -335,24 +319,18 @@ fn object_at(line: Line, locals: &[u64; 32]) -> ObjectId
     ensures value { result ≡ object_at line locals.now }
     ensures in_range { result.0 ≤ 65535 }
 {
-    ObjectId(id_of(number_at(line.object, locals)))
+    let number = number_at(line.object, locals);
+    ObjectId(if number <= 65_535 { number as u32 } else { 0 })
 }
 
 // The number that a name stands for.
 fn number_at(meaning: Meaning, locals: &[u64; 32]) -> u64
     ensures { result ≡ number_at meaning locals.now }
 {
-    if meaning.local {
-        local_number(meaning.number, locals)
-    } else {
-        u64::from(meaning.number)
-    }
-}
-
-fn local_number(number: u16, locals: &[u64; 32]) -> u64
-    ensures { result ≡ local_number number locals.now }
-{
-    if 1 <= number && number <= 32 {
+    let number = meaning.number;
+    if !meaning.local {
+        u64::from(number)
+    } else if 1 <= number && number <= 32 {
         locals[usize::from(number - 1)]
     } else {
         0

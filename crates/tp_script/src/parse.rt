@@ -3,7 +3,7 @@
 ghost use Rattle.std.specs.Prelude.{◌≡◌, ◌+◌, ◌≤◌, ◌<◌, ◌^◌, [], IfErr, IfOk, MatchResult, OnOk, length, vec_len};
 ghost use Rattle.script_lines.specs.Texts.{lines_of, words_from};
 ghost use Rattle.tp_script.specs.Answers.{IsAdded, IsLineFaultAt, IsScriptFault};
-ghost use Rattle.tp_script.specs.Scripts.{IsScript, is_local, known_after, named_by, routine_number, section_of, sort_made, sort_of_kind, with_routine, with_routine_behind, with_routine_name, with_routines};
+ghost use Rattle.tp_script.specs.Scripts.{IsScript, is_local, known_after, named_by, sort_made, sort_of_kind, with_routine, with_routine_behind, with_routine_name, with_routines};
 
 use crate::fault::ScriptFault;
 use script_lines::{
@@ -146,7 +146,12 @@ fn add_routine_name<'a>(routines: &mut Table<'a>, name: &'a [u8]) -> Result<(), 
     ensures { OnOk result (routines.new ≡ with_routine_name routines.old name.now) }
 {
     if is_name(name) && routines.find(name).is_none() {
-        let number = routine_number(routines.len());
+        let others = routines.len();
+        let number = if others < 65_535 {
+            others as u16 + 1
+        } else {
+            65_535
+        };
         routines.add(
             name,
             Named {
@@ -160,17 +165,6 @@ fn add_routine_name<'a>(routines: &mut Table<'a>, name: &'a [u8]) -> Result<(), 
         )
     } else {
         Ok(())
-    }
-}
-
-// The number of a routine behind so many others.
-fn routine_number(others: usize) -> u16
-    ensures { result ≡ routine_number others }
-{
-    if others < 65_535 {
-        others as u16 + 1
-    } else {
-        65_535
     }
 }
 
@@ -210,22 +204,17 @@ pub fn is_local(head: Word) -> bool
     matches!(head, Word::Let | Word::IssueIo)
 }
 
-fn section_of(head: Word, state: State) -> u32
-    ensures { result ≡ section_of head state }
-{
-    if is_local(head) { state.section } else { 0 }
-}
-
 // What the new name of a line stands for, and where.
 fn named_by(line: Line, state: State) -> Named
     ensures { result ≡ named_by line state }
 {
+    let local = is_local(line.head);
     Named {
         meaning: Meaning {
             sort: sort_made(line.head, line.kind),
-            local: is_local(line.head),
+            local,
             number: line.made,
         },
-        section: section_of(line.head, state),
+        section: if local { state.section } else { 0 },
     }
 }

@@ -12,7 +12,7 @@ ghost use Rattle.tp_script.specs.Scripts.{IsFaultIn, IsScript, is_local};
 ghost use Rattle.tp_base.specs.Ranges.{IsCallInRange};
 ghost use Rattle.tp_script.specs.Calls.{IsOfPart};
 ghost use Rattle.tp_script.specs.Machines.{HasFewClients, NeverWaitsAtFirst};
-ghost use Rattle.tp_script.specs.Nexts.{acting, call_at, clients_of, is_end, is_refusal, line_after, line_at, noted, number_in, numbered_place, opens, place_of, places_behind, stepped, waited, with_local};
+ghost use Rattle.tp_script.specs.Nexts.{call_at, clients_of, line_after, line_at, number_in, numbered_place, opens, place_of, places_behind, stepped, waited};
 
 use crate::calls::{acts, begins_wait, call_of, calls_in};
 use crate::fault::ScriptFault;
@@ -86,7 +86,7 @@ impl Script {
     {
         let place = self.place_of(part)?;
         let line = self.lines.get(place as usize + op as usize)?;
-        acting(line)
+        if acts(line.head) { Some(line) } else { None }
     }
 
     fn place_of(&self, part: Part) -> Option<u32>
@@ -186,18 +186,11 @@ fn add_places(
     ensures { IfOk result (λ all. all.items ≡ places.items ++ places_behind opening 0 lines.now) }
 {
     for (index, line) in lines.iter().enumerate() {
-        add_place(&mut places, index as u32 + 1, opening.opens(line.head))?;
+        if opening.opens(line.head) {
+            places.push(index as u32 + 1)?;
+        }
     }
     Ok(places)
-}
-
-fn add_place(places: &mut Vec<u32>, place: u32, opens: bool) -> Result<(), AllocError>
-    ensures { OnOk result (places.new.items ≡ places.old.items ++ (if opens then place ∷ [] else [])) }
-{
-    if opens {
-        places.push(place)?;
-    }
-    Ok(())
 }
 
 // The place with this number, counted from 1.
@@ -208,12 +201,6 @@ fn numbered_place(places: &[u32], number: u32) -> Option<u32>
         return None;
     }
     places.get(number as usize - 1).copied()
-}
-
-fn acting(line: &Line) -> Option<&Line>
-    ensures { option_copied result ≡ acting line.now }
-{
-    if acts(line.head) { Some(line) } else { None }
 }
 
 // The end of a wait that was begun, or the next call of the line.
@@ -238,7 +225,10 @@ fn line_after(line: &Line, at: &mut Progress, answer: Answer)
     if begins_wait(line.head) {
         waited(calls_in(*line), at, answer);
     } else {
-        noted(*line, at, answer);
+        // A name that the line makes stands for the number in the answer.
+        if is_local(line.head) && 1 <= line.made && line.made <= 32 {
+            at.locals[usize::from(line.made - 1)] = number_in(answer);
+        }
         stepped(calls_in(*line), at);
     }
 }
@@ -249,11 +239,11 @@ fn waited(calls: u32, at: &mut Progress, answer: Answer)
     ensures { at.new ≡ waited calls at.old answer }
 {
     if at.ending {
-        if is_end(answer) {
+        if matches!(answer, Answer::Ended | Answer::Exhausted | Answer::Stalled) {
             at.ending = false;
             stepped(calls, at);
         }
-    } else if is_refusal(answer) {
+    } else if matches!(answer, Answer::Refused(_)) {
         stepped(calls, at);
     } else {
         at.ending = true;
@@ -273,24 +263,6 @@ fn stepped(calls: u32, at: &mut Progress)
     }
 }
 
-// A name that the line makes stands for the number in the answer.
-fn noted(line: Line, at: &mut Progress, answer: Answer)
-    ensures value { at.new ≡ noted line at.old answer }
-    ensures op { at.new.op ≡ at.old.op }
-{
-    if is_local(line.head) {
-        with_local(&mut at.locals, line.made, number_in(answer));
-    }
-}
-
-fn with_local(locals: &mut [u64; 32], made: u16, number: u64)
-    ensures { locals.new ≡ with_local locals.old made number }
-{
-    if 1 <= made && made <= 32 {
-        locals[usize::from(made - 1)] = number;
-    }
-}
-
 fn number_in(answer: Answer) -> u64
     ensures { result ≡ number_in answer }
 {
@@ -299,16 +271,4 @@ fn number_in(answer: Answer) -> u64
         Answer::Operation { callback } => callback,
         _ => 0,
     }
-}
-
-fn is_end(answer: Answer) -> bool
-    ensures { result ≡ is_end answer }
-{
-    matches!(answer, Answer::Ended | Answer::Exhausted | Answer::Stalled)
-}
-
-fn is_refusal(answer: Answer) -> bool
-    ensures { result ≡ is_refusal answer }
-{
-    matches!(answer, Answer::Refused(_))
 }
