@@ -1,6 +1,6 @@
 -- The moments of a legal history are the machine's clock: an advance alone moves it, and its answer tells where to.
 use Rattle.std.proofs.Common.{◌≡◌, ℕ, zero, suc, ◌+◌, Bool, true, false, cond, not, ◌||◌, ◌==◌, nat_le, nat_lt, List, [], ◌∷◌, map, length, Option, Some, None, refl, sym, ap, ap₂, ◌∙◌, subst, arith, slice_get}
-use Rattle.std.specs.Prelude.{ℤ, fold, take}
+use Rattle.std.specs.Prelude.{ℤ, fold, take, Result, Ok, Err}
 use Rattle.std.specs.Option.{unwrap_or}
 use Rattle.std.specs.List.{range_with_len}
 use Rattle.tp_base.specs.Kernels.{is_event, is_lock, is_signalled, owns, taken}
@@ -65,7 +65,14 @@ use Rattle.tp_model.proofs.Entries.{Accepts, Entered, Refuses, entered, entry_le
 use Rattle.tp_model.proofs.Firing.{signal_now, with_arming}
 use Rattle.tp_model.proofs.Performing.{returning_now}
 use Rattle.tp_model.proofs.Sound.{opening_sound}
-use Rattle.tp_report.specs.Moments.{clock_by, moment_after, moment_of, moments, moments_from}
+use Rattle.tp_report.specs.Faults.{IsOrNoMemory}
+use Rattle.tp_report.specs.Histories.{entries_of}
+use Rattle.tp_report.specs.Moments.{clock_by, clocks, moment_after, moment_of, moments, moments_from}
+use Rattle.tp_report.specs.Verdicts.{IfLegal, IsVerdict}
+use Rattle.tp_report.specs.declared.faults.TextFault.{TextFault}
+use Rattle.tp_report.specs.declared.lines.Line.{Line}
+use Rattle.tp_report.specs.declared.verdict.Verdict.{Verdict}
+use Rattle.tp_report.specs.declared.verdict.Verdict.TheVariants.{Legal, NotLegal, WrongMoment}
 
 -- ---- changes
 
@@ -283,6 +290,14 @@ moments_are w capacity entries (entry ∷ rest) sound legal =
     one_more : (n : ℕ) → n + 1 ≡ suc n
     one_more n = omega arith
 
--- the moments of a legal history are the times of the machine's clock behind its first entry, behind its first two, and so on
-pub moments_told : (limits : Limits) (capacity : ℕ) (history : List Entry) → IsLegal limits capacity history → moments history ≡ map (λ n. (after limits (take n history)).now) (range_with_len 1 (length history))
+-- the moments of a legal history are the times of the machine's clock
+moments_told : (limits : Limits) (capacity : ℕ) (history : List Entry) → IsLegal limits capacity history → moments history ≡ clocks limits history
 moments_told limits capacity history legal = moments_are (opening limits) capacity 0 history (opening_sound limits) legal
+
+-- and so are those of a history that is called legal
+pub legal_clocks : (limits : Limits) (capacity : ℕ) (lines : List Line) (result : Result Verdict TextFault) → IsOrNoMemory (IsVerdict limits capacity lines) result
+    → IfLegal result (moments (entries_of lines) ≡ clocks limits (entries_of lines))
+legal_clocks limits capacity lines (Ok (Legal len)) verdict = moments_told limits capacity (entries_of lines) verdict.0
+legal_clocks limits capacity lines (Ok (NotLegal position outcome)) verdict = tt
+legal_clocks limits capacity lines (Ok (WrongMoment position now)) verdict = tt
+legal_clocks limits capacity lines (Err fault) verdict = tt

@@ -1,10 +1,13 @@
 -- Moments of a history: the time of the clock behind each entry, as the entries tell it.
-use Rattle.std.specs.Prelude.{ℕ, List, [], ◌∷◌, Option, None, Some, fold, unwrap_or}
+use Rattle.std.specs.Prelude.{ℕ, List, [], ◌∷◌, Option, None, Some, fold, length, map, take, unwrap_or}
+use Rattle.std.specs.List.{range_with_len}
 use Rattle.tp_base.specs.declared.answers.Answer.{Answer}
 use Rattle.tp_base.specs.declared.answers.Answer.TheVariants.{Advanced}
 use Rattle.tp_base.specs.declared.answers.Entry.{Entry}
 use Rattle.tp_base.specs.declared.calls.Call.{Call}
 use Rattle.tp_base.specs.declared.calls.Call.TheVariants.{Advance}
+use Rattle.tp_base.specs.declared.limits.Limits.{Limits}
+use Rattle.tp_model.specs.History.{after}
 
 -- the time that the answer of an advance tells
 abbrev pub clock_by : Call → Answer → Option ℕ
@@ -26,3 +29,7 @@ moments history = moments_from 0 history
 -- the one behind them all
 abbrev pub moment_of : List Entry → ℕ
 moment_of history = fold moment_after 0 history
+
+-- the times of the machine's clock behind the first entry, behind the first two, and so on
+abbrev pub clocks : Limits → List Entry → List ℕ
+clocks limits history = map (λ n. (after limits (take n history)).now) (range_with_len 1 (length history))

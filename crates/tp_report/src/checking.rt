@@ -7,6 +7,7 @@ ghost use Rattle.tp_report.specs.declared.lines.Line.{Line as HistoryLine};
 ghost use Rattle.tp_report.specs.Faults.{IsOrNoMemory, IsPlace};
 ghost use Rattle.tp_report.specs.Histories.{HasHeaderLine, IsHistory, IsHistoryFault, entries_of};
 ghost use Rattle.tp_report.specs.Judging.{AreLines, IsJudgedOn, IsLinesFault, IsVerdictBehind};
+ghost use Rattle.tp_report.specs.Moments.{clocks, moments};
 ghost use Rattle.tp_report.specs.Verdicts.{IfLegal, IsJudged, IsLegalTold, IsVerdict, limits_of, migrated_text};
 
 use crate::faults::{CheckFault, fault_behind};
@@ -34,6 +35,8 @@ pub fn check<B: Recorded>(alloc: Global, bytes: &[u8]) -> Result<Verdict, CheckF
     ensures err { IfErr result (λ fault. IsPlace (IsHistoryFault bytes.now) fault) }
     // A history that it calls legal keeps the laws.
     ensures laws { (header : FirstLine) (lines : List HistoryLine) → IsHistory bytes.now header lines → IfLegal result (KeepsLaws (limits_of header) (entries_of lines)) }
+    // And each moment is the time of the machine's clock behind its entry.
+    ensures clock { (header : FirstLine) (lines : List HistoryLine) → IsHistory bytes.now header lines → IfLegal result (moments (entries_of lines) ≡ clocks (limits_of header) (entries_of lines)) }
 {
     let (_, verdict) = judge_all::<B>(alloc, bytes)?;
     Ok(verdict)
