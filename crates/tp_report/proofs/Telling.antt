@@ -62,7 +62,7 @@ lines_last header history entry =
     ap (λ ls. header_line header ∷ map line_of ls) (timed_next 0 history entry)
     ∙ ap (λ ls. header_line header ∷ ls) (map-append line_of (timed history) (at (moment_after (moment_of history) entry) entry ∷ []))
 
-timed_length : (now : ℕ) (entries : List Entry) → length (timed_from now entries) ≡ length entries
+pub timed_length : (now : ℕ) (entries : List Entry) → length (timed_from now entries) ≡ length entries
 timed_length now [] = refl
 timed_length now (entry ∷ entries) = ap suc (timed_length (moment_after now entry) entries)
 

@@ -1,5 +1,5 @@
 -- What a machine keeps that writes its history down as a text.
-use Rattle.std.specs.Prelude.{◌≡◌, ℕ, ◌+◌, ◌≤◌, ◌∷◌, ◌++◌, length, map, max}
+use Rattle.std.specs.Prelude.{◌≡◌, ℕ, ◌+◌, ◌≤◌, length, max}
 use Rattle.line_grammar.specs.Traces.{trace_text}
 use Rattle.recorded.specs.Recordings.{Recording}
 use Rattle.tp_lines.specs.Reserved.{Reserved}

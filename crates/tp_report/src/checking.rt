@@ -1,6 +1,6 @@
 //! Checking of histories, and their change into format 2.
 
-ghost use Rattle.std.specs.Prelude.{◌≡◌, ◌≤◌, ◌++◌, ◌⊎◌, [], List, IfErr, IfOk};
+ghost use Rattle.std.specs.Prelude.{◌≡◌, ◌≤◌, ◌++◌, ◌⊎◌, [], List, IfErr, IfOk, length};
 ghost use Rattle.tp_model.specs.Laws.{KeepsLaws};
 ghost use Rattle.tp_report.specs.declared.headers.Header.{Header as FirstLine};
 ghost use Rattle.tp_report.specs.declared.lines.Line.{Line as HistoryLine};
@@ -54,6 +54,8 @@ pub fn migrate<B: Recorded>(
         IsOrNoMemory (IsVerdict (limits_of header) header.events lines) result }
     ensures err { IfErr result (λ fault. IsPlace (IsHistoryFault bytes.now) fault) }
     ensures text { (header : FirstLine) (lines : List HistoryLine) → IsHistory bytes.now header lines → IfLegal result (out.new.items ≡ out.old.items ++ migrated_text header lines) }
+    // What is appended is a legal history with as many entries.
+    ensures again { (header : FirstLine) (lines : List HistoryLine) → IsHistory bytes.now header lines → IfLegal result (IsJudged (migrated_text header lines) (Verdict.Legal (length lines))) }
     ensures same { IsLegalTold result ⊎ (out.new.items ≡ out.old.items) }
 {
     let (written, verdict) = judge_all::<Written<B>>(alloc, bytes)?;

@@ -8,7 +8,7 @@
 //! end line, with their number.
 //!
 //! `migrate` judges a history as `check` does, and appends the text of a legal one in format 2, whichever
-//! format it was in.
+//! format it was in. What it appends is a legal history again.
 //!
 //! Each takes a text line by line: what is read is played at once on a machine that keeps its history, a
 //! `recorded::Recorded` of the caller's choice, and no list of the lines is kept. Each answers the place

@@ -1,7 +1,7 @@
 use Rattle.std.proofs.Common.{ℕ, List, inr, refl}
 use Rattle.recorded.specs.Recordings.{Recording}
 use Rattle.tp_report.specs.Histories.{history_told}
-use Rattle.tp_report.proofs.Migrating.{appended, fault_again, migrated}
+use Rattle.tp_report.proofs.Migrating.{appended, fault_again, judged_again, migrated}
 use Rattle.tp_report.proofs.checking.migrate.Goals as goal
 
 pub returns-in_err-written-clause-only : goal.returns-in_err-written-clause-only
@@ -15,8 +15,12 @@ pub returns-in_ok-extend_from_slice-clause-text : goal.returns-in_ok-extend_from
 returns-in_ok-extend_from_slice-clause-text g c = λ header lines h.
     migrated header lines c.in_ok-written.written c.in_ok-written.verdict c.args.out.now.items c.extend_from_slice.new.self.items (c.in_ok-written.ensures.only header lines h)
     (λ len is.
-      appended c.args.out.now.items c.in_ok-text.text.items c.deref.result.now (history_told c.in_ok-written.written) c.extend_from_slice.new.self.items c.in_ok-extend_from_slice.ensures.items
-          c.deref.ensures.value c.in_ok-text.ensures.text)
+    appended c.args.out.now.items c.in_ok-text.text.items c.deref.result.now (history_told c.in_ok-written.written) c.extend_from_slice.new.self.items c.in_ok-extend_from_slice.ensures.items
+    c.deref.ensures.value c.in_ok-text.ensures.text)
+
+pub returns-in_ok-extend_from_slice-clause-again : goal.returns-in_ok-extend_from_slice-clause-again
+returns-in_ok-extend_from_slice-clause-again g c = λ header lines h.
+    judged_again c.args.bytes.now header lines h c.in_ok-written.written c.in_ok-written.verdict (c.in_ok-written.ensures.only header lines h)
 
 pub returns-in_default : goal.returns-in_default
 returns-in_default g c =
@@ -27,5 +31,7 @@ returns-in_default g c =
       text = λ header lines h.
           migrated header lines c.in_ok-written.written c.in_ok-written.verdict c.args.out.now.items c.args.out.now.items (c.in_ok-written.ensures.only header lines h)
           (λ len is. absurd (c.in_default.not-Legal len is));
+      again = λ header lines h.
+          judged_again c.args.bytes.now header lines h c.in_ok-written.written c.in_ok-written.verdict (c.in_ok-written.ensures.only header lines h);
       same = inr (refl {A = List ℕ});
     }
