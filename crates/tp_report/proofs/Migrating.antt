@@ -23,9 +23,6 @@ use Rattle.tp_report.specs.declared.verdict.Verdict.{Verdict}
 use Rattle.tp_report.specs.declared.verdict.Verdict.TheVariants.{Legal, NotLegal, WrongMoment}
 use Rattle.tp_report.proofs.Telling.{read_back, timed_length}
 
-pub appended : (before text held told after : List ℕ) → after ≡ before ++ held → held ≡ text → text ≡ told → after ≡ before ++ told
-appended before text held told after e f g = e ∙ ap (λ t. before ++ t) (f ∙ g)
-
 module _ (header : Header) (lines : List Line) where
   fault_alone : {T : Type 0} (recording : T → Recording) (fault : TextFault) → IsOrNoMemory (λ (judged : T × Verdict). IsJudgedOn header lines (recording judged.0) judged.1) (Err fault)
       → IsOrNoMemory (IsVerdict (limits_of header) header.events lines) (Err fault)

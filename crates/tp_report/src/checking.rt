@@ -1,6 +1,6 @@
 //! Checking of histories, and their change into format 2.
 
-ghost use Rattle.std.specs.Prelude.{◌≡◌, ◌≤◌, ◌++◌, ◌⊎◌, [], List, IfErr, IfOk, length};
+ghost use Rattle.std.specs.Prelude.{◌≡◌, ◌≤◌, ◌++◌, ◌⊎◌, [], List, IfErr, IfOk, OnErr, OnOk, length};
 ghost use Rattle.tp_model.specs.Laws.{KeepsLaws};
 ghost use Rattle.tp_report.specs.declared.headers.Header.{Header as FirstLine};
 ghost use Rattle.tp_report.specs.declared.lines.Line.{Line as HistoryLine};
@@ -17,7 +17,7 @@ use crate::moments::Stamp;
 use crate::verdict::{Verdict, judge};
 use crate::written::{Written, into_history};
 use recorded::Recorded;
-use std::alloc::Global;
+use std::alloc::{AllocError, Global};
 use tp_base::answers::{Answer, Entry, Look, Outcome};
 use tp_base::calls::Call;
 use tp_base::ids::Who;
@@ -61,13 +61,21 @@ pub fn migrate<B: Recorded>(
     let (written, verdict) = judge_all::<Written<B>>(alloc, bytes)?;
     if let Verdict::Legal { .. } = verdict {
         let (_, text) = into_history(alloc, written)?;
-        if out.is_empty() {
-            *out = text;
-        } else {
-            out.extend_from_slice(&text)?;
-        }
+        append(text, out)?;
     }
     Ok(verdict)
+}
+
+// Appends a text, which needn't be copied where nothing stands before it.
+fn append(text: Vec<u8>, out: &mut Vec<u8>) -> Result<(), AllocError>
+    ensures ok { OnOk result (out.new.items ≡ out.old.items ++ text.items) }
+    ensures err { OnErr result (out.new.items ≡ out.old.items) }
+{
+    if out.is_empty() {
+        *out = text;
+        return Ok(());
+    }
+    out.extend_from_slice(&text)
 }
 
 // Reads a history, and answers the verdict on it and the machine on which it was played as long as it was right.
