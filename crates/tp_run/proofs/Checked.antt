@@ -1,5 +1,5 @@
 -- What the program makes of a history: what `check` and `migrate` write.
-use Rattle.std.proofs.Common.{◌≡◌, ℕ, List, Result, Ok, Err, refl, sym, ap, ◌∙◌, subst}
+use Rattle.std.proofs.Common.{◌≡◌, ℕ, List, [], ◌++◌, Result, Ok, Err, refl, sym, ap, ◌∙◌, subst}
 use Rattle.std.specs.Result.{IsErrAnd}
 use Rattle.tp_report.specs.Histories.{IsHistory, IsHistoryFault}
 use Rattle.tp_report.specs.Faults.{IsOrNoMemory, IsPlace}
@@ -67,6 +67,13 @@ output_of_migration bytes text verdict ending judged only text_is ending_is =
           let same = one_verdict (limits_of g.header) g.header.events g.lines verdict g.told (only g.header g.lines g.is_history) g.is_verdict in
           (text_is g.header g.lines g.is_history ∙ ap (λ v. migration_written g.header g.lines v) same ∙ sym g.output_is, ending_is ∙ ap ending_of same ∙ sym g.ending_is);
     }
+
+-- a legal history is written
+pub right_migration : (bytes before after : List ℕ) (verdict : Verdict) (len : ℕ) → verdict ≡ Legal len → before ≡ []
+    → ((header : Header) (lines : List Line) → IsHistory bytes header lines → IfLegal (Ok verdict) (after ≡ before ++ migrated_text header lines)) → IsMigration bytes verdict after
+right_migration bytes before after verdict len is none told =
+    subst (λ v. IsMigration bytes v after) (sym is)
+    (λ header lines h. subst (λ v. IfLegal (Ok v) (after ≡ before ++ migrated_text header lines)) is (told header lines h) ∙ ap (λ b. b ++ migrated_text header lines) none)
 
 -- a history that isn't legal is told its verdict
 pub wrong_migration : (bytes text : List ℕ) (verdict : Verdict) → ((len : ℕ) → verdict ≡ Legal len → ⊥) → text ≡ verdict_text verdict → IsMigration bytes verdict text

@@ -105,13 +105,12 @@ fn migrated<B: Recorded>(alloc: Global, bytes: &[u8]) -> Result<Output, Status>
 {
     let mut text = Vec::new(alloc);
     let verdict = migrate::<B>(alloc, bytes, &mut text)?;
-    match verdict {
-        Verdict::Legal { .. } => Ok(Output {
-            text,
-            ending: Ending::Fine,
-        }),
-        Verdict::NotLegal { .. } | Verdict::WrongMoment { .. } => Ok(output_of(alloc, &verdict)?),
+    if let Verdict::Legal { .. } = verdict {
+        let ending = Ending::Fine;
+        return Ok(Output { text, ending });
     }
+    let output = output_of(alloc, &verdict)?;
+    Ok(output)
 }
 
 // What `check` writes of a verdict, and how it ends.
