@@ -7,9 +7,11 @@ use Rattle.line_grammar.specs.Words.{Word, further_of}
 use Rattle.line_grammar.proofs.Pairs.{pairs_read, pairs_stuck_first, pairs_stuck_second, pairs_part}
 use Rattle.line_grammar.proofs.Readings.{part_renamed, read_renamed, stuck_renamed}
 use Rattle.line_grammar.proofs.WordFacts.{further_read}
+use Rattle.recorded.specs.declared.TheConstants.{OBJECT_LIMIT}
 use Rattle.tp_report.specs.declared.headers.Format.{Format}
 use Rattle.tp_report.specs.declared.headers.Format.TheVariants.{One, Two}
 use Rattle.tp_report.specs.declared.headers.Header.{Header}
+use Rattle.tp_report.specs.declared.headers.TheConstants.{EVENT_LIMIT}
 use Rattle.tp_report.specs.Histories.{AreObjects, HeaderLines, mark_of, objects_text}
 use Rattle.tp_report.specs.Readings.{Counts, Keyed, Marks, Objects, Rooms, Sizes}
 use Rattle.tp_report.proofs.Keys.{keyed_part, keyed_tail, word_part}
@@ -45,7 +47,7 @@ abbrev Workers : ℕ → List ℕ → Type 0
 Workers = Keyed (codes " workers") 1 64
 
 abbrev Events : ℕ → List ℕ → Type 0
-Events = Keyed (codes " events") 16 131072
+Events = Keyed (codes " events") 16 EVENT_LIMIT
 
 clients_part : IsPart 32 Clients
 clients_part = keyed_part (codes " clients") 0 16 (omega arith) (omega arith)
@@ -54,18 +56,18 @@ workers_part : IsPart 32 Workers
 workers_part = keyed_part (codes " workers") 1 64 (omega arith) (omega arith)
 
 events_part : IsPart 32 Events
-events_part = keyed_part (codes " events") 16 131072 (omega arith) (omega arith)
+events_part = keyed_part (codes " events") 16 EVENT_LIMIT (omega arith) (omega arith)
 
 objects_part : (format : Format) → IsPart 32 (Objects format)
 objects_part One = word_part 4095 32 []
-objects_part Two = keyed_part (codes " objects") 1 65535 (omega arith) (omega arith)
+objects_part Two = keyed_part (codes " objects") 1 OBJECT_LIMIT (omega arith) (omega arith)
 
 objects_tail : (format : Format) → IsTail 32 (Objects format)
 objects_tail One = record { opens = λ v text w. subst (λ l. Opens 32 l) (sym w.split) tt; some = (4095, [], record { means = refl; split = refl }) }
-objects_tail Two = keyed_tail (codes " objects") 1 65535 (omega arith) (omega arith) (codes "objects") refl
+objects_tail Two = keyed_tail (codes " objects") 1 OBJECT_LIMIT (omega arith) (omega arith) (codes "objects") refl
 
 events_tail : IsTail 32 Events
-events_tail = keyed_tail (codes " events") 16 131072 (omega arith) (omega arith) (codes "events") refl
+events_tail = keyed_tail (codes " events") 16 EVENT_LIMIT (omega arith) (omega arith) (codes "events") refl
 
 workers_tail : IsTail 32 Workers
 workers_tail = keyed_tail (codes " workers") 1 64 (omega arith) (omega arith) (codes "workers") refl

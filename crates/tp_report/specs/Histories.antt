@@ -3,6 +3,7 @@ use Rattle.std.specs.Prelude.{◌≡◌, ℕ, ◌+◌, ◌<◌, ◌≤◌, List,
 use Rattle.line_grammar.specs.Language.{AnyOf, Reaches}
 use Rattle.line_grammar.specs.Traces.{EndedLine, trace_text}
 use Rattle.recorded.specs.Recordings.{Recording}
+use Rattle.recorded.specs.declared.TheConstants.{OBJECT_LIMIT}
 use Rattle.tp_base.specs.declared.answers.Entry.{Entry}
 use Rattle.tp_base.specs.declared.limits.Limits.{Limits}
 use Rattle.tp_lines.specs.Answers.{IsEntryLine, line_of_entry}
@@ -10,6 +11,7 @@ use Rattle.tp_report.specs.Moments.{moment_after}
 use Rattle.tp_report.specs.declared.headers.Format.{Format}
 use Rattle.tp_report.specs.declared.headers.Format.TheVariants.{One, Two}
 use Rattle.tp_report.specs.declared.headers.Header.{Header}
+use Rattle.tp_report.specs.declared.headers.TheConstants.{EVENT_LIMIT}
 use Rattle.tp_report.specs.declared.lines.Line.{Line}
 
 -- what the first line begins with
@@ -24,7 +26,7 @@ objects_text Two objects = codes " objects " ++ decimal objects
 
 abbrev pub AreObjects : Format → ℕ → Type 0
 AreObjects One objects = objects ≡ 4095
-AreObjects Two objects = (1 ≤ objects) × (objects ≤ 65535)
+AreObjects Two objects = (1 ≤ objects) × (objects ≤ OBJECT_LIMIT)
 
 -- the first line, without its line feed
 abbrev pub header_line : Header → List ℕ
@@ -37,7 +39,7 @@ pub record IsHeaderLine (header : Header) (text : List ℕ) : Type 0 where
   pub workers_least : 1 ≤ header.workers
   pub workers_most : header.workers ≤ 64
   pub events_least : 16 ≤ header.events
-  pub events_most : header.events ≤ 131072
+  pub events_most : header.events ≤ EVENT_LIMIT
   pub objects_in_range : AreObjects header.format header.objects
   pub split : text ≡ header_line header
 

@@ -4,12 +4,14 @@ use Rattle.line_grammar.specs.Language.{IsReadTo, IsStuck}
 use Rattle.line_grammar.specs.Numbers.{Numbers}
 use Rattle.line_grammar.specs.Parts.{Led, Pairs}
 use Rattle.line_grammar.specs.Words.{Either, Word}
+use Rattle.recorded.specs.declared.TheConstants.{OBJECT_LIMIT}
 use Rattle.tp_base.specs.declared.answers.Entry.{Entry}
 use Rattle.tp_lines.specs.Answers.{EntryLines}
 use Rattle.tp_report.specs.Histories.{NextLines, end_line, mark_of}
 use Rattle.tp_report.specs.declared.headers.Format.{Format}
 use Rattle.tp_report.specs.declared.headers.Format.TheVariants.{One, Two}
 use Rattle.tp_report.specs.declared.headers.Header.{Header}
+use Rattle.tp_report.specs.declared.headers.TheConstants.{EVENT_LIMIT}
 use Rattle.tp_report.specs.declared.lines.Line.{Line}
 use Rattle.tp_report.specs.declared.lines.Next.{Next}
 use Rattle.tp_report.specs.declared.lines.Next.TheVariants.{Another, End, Fault}
@@ -31,10 +33,10 @@ Marks = Either (Word One (mark_of One)) (Word Two (mark_of Two))
 -- the numbers behind it: of clients, of workers, of events, and of objects, which one format doesn't tell
 abbrev pub Objects : Format → ℕ → List ℕ → Type 0
 Objects One = Word 4095 []
-Objects Two = Keyed (codes " objects") 1 65535
+Objects Two = Keyed (codes " objects") 1 OBJECT_LIMIT
 
 abbrev pub Rooms : Format → (ℕ × ℕ) → List ℕ → Type 0
-Rooms format = Pairs (Keyed (codes " events") 16 131072) (λ events. Objects format)
+Rooms format = Pairs (Keyed (codes " events") 16 EVENT_LIMIT) (λ events. Objects format)
 
 abbrev pub Sizes : Format → (ℕ × (ℕ × ℕ)) → List ℕ → Type 0
 Sizes format = Pairs (Keyed (codes " workers") 1 64) (λ workers. Rooms format)

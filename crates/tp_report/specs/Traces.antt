@@ -14,6 +14,7 @@ use Rattle.tp_lines.specs.Answers.{text_of_outcome}
 use Rattle.tp_lines.specs.Calls.{IsCallLine, line_of_call}
 use Rattle.tp_model.specs.History.{play}
 use Rattle.tp_report.specs.Histories.{history_text}
+use Rattle.tp_report.specs.declared.headers.TheConstants.{EVENT_LIMIT}
 use Rattle.tp_report.specs.declared.playing.MachineSize.{MachineSize}
 
 -- a machine of a trace has from 1 to 64 workers, and room for 16 to 131,072 entries
@@ -21,7 +22,7 @@ pub record IsMachineSize (machine : MachineSize) : Type 0 where
   pub some_workers : 1 ≤ machine.workers
   pub most_workers : machine.workers ≤ 64
   pub least_events : 16 ≤ machine.events
-  pub most_events : machine.events ≤ 131072
+  pub most_events : machine.events ≤ EVENT_LIMIT
 
 abbrev pub line_of : (Who × Call) → List ℕ
 line_of made = line_of_call made.0 made.1

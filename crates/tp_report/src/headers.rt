@@ -7,8 +7,11 @@ ghost use Rattle.tp_report.specs.Readings.{Counts, Keyed, Marks, Objects, Rooms,
 
 use line_grammar::numbers::read_prefixed;
 use line_grammar::words::{further, read_bytes};
-use recorded::program_limits;
+use recorded::{OBJECT_LIMIT, program_limits};
 use tp_base::limits::Limits;
+
+/// The most entries that a history can have room for.
+pub const EVENT_LIMIT: u32 = 131_072;
 
 /// How a history is written.
 #[derive(Clone, Copy)]
@@ -121,7 +124,7 @@ fn read_sizes(format: Format, text: &[u8]) -> Result<((u64, (u64, u64)), usize),
 fn read_rooms(format: Format, text: &[u8]) -> Result<((u64, u64), usize), usize>
     ensures { IsRead (Rooms format) text.now result }
 {
-    match read_keyed(b" events", text, 16, 131_072) {
+    match read_keyed(b" events", text, 16, EVENT_LIMIT as u64) {
         Err(place) => Err(place),
         Ok((events, size)) => {
             let (_, rest) = text.split_at(size);
@@ -139,7 +142,7 @@ fn read_objects(format: Format, text: &[u8]) -> Result<(u64, usize), usize>
 {
     match format {
         Format::One => read_bytes(4_095, b"", text),
-        Format::Two => read_keyed(b" objects", text, 1, 65_535),
+        Format::Two => read_keyed(b" objects", text, 1, OBJECT_LIMIT as u64),
     }
 }
 

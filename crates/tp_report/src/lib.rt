@@ -48,6 +48,7 @@ mod written;
 pub use checking::{check, migrate};
 pub use counts::{Counted, Counts};
 pub use faults::{CheckFault, TextFault};
+pub use headers::EVENT_LIMIT;
 pub use json::print_json;
 pub use left::{LeftRow, left_callbacks};
 pub use playing::{MachineSize, history, trace};

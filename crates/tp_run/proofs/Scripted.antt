@@ -12,6 +12,8 @@ use Rattle.tp_model.specs.Laws.Once.{left}
 use Rattle.recorded.specs.Recordings.{Recording}
 use Rattle.tp_model.specs.Laws.{KeepsLaws}
 use Rattle.tp_report.specs.Summaries.{totals_behind, IsNoneLost}
+use Rattle.recorded.specs.declared.TheConstants.{OBJECT_LIMIT as machine_most}
+use Rattle.script_lines.specs.declared.state.TheConstants.{OBJECT_LIMIT as declared_most}
 use Rattle.tp_run.specs.Played.{ending_by, has_pending, limits_for, long_script, printed, routines_of, EndsRun, IsOfOne, IsOutputOf, IsPlayed, RanOut}
 use Rattle.tp_report.specs.EarlyEnds.{has_early_end}
 use Rattle.tp_report.specs.declared.counts.EarlyEnd.TheVariants as early
@@ -215,3 +217,7 @@ big_output bytes number machine json output one_history one_script played = reco
   only = λ determined other other_end g.
       one_played_of None one_history one_script (long_script number) 1 refl machine (short_layout json) output.text.items other output.ending other_end played g;
 }
+
+-- a script declares as many objects as the machine has at most
+objects_agree : declared_most ≡ machine_most
+objects_agree = refl

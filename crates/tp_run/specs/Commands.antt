@@ -1,6 +1,7 @@
 -- Which lists of words are a command.
 use Rattle.std.specs.Prelude.{ℕ, Bool, true, false, ◌&&◌, ◌==◌, not, List, codes, is_some, nat_le, if◌then◌else◌, None, Some, Option, option_and_then, option_map}
 use Rattle.std.specs.Str.{bytes_eq}
+use Rattle.tp_report.specs.declared.headers.TheConstants.{EVENT_LIMIT}
 use Rattle.tp_report.specs.declared.playing.MachineSize.{MachineSize}
 use Rattle.tp_run.specs.Numbers.{number_in}
 use Rattle.tp_run.specs.declared.command.Command.{Command}
@@ -72,7 +73,7 @@ command_said said =
     option_and_then (λ name. if is_seed_for_nothing name threads seed then None else command_named name threads seed (record { workers = workers; events = events }) said.json said.number)
     (option_and_then name_in said.command))
     (seed_in said.seed))
-    (bounded 16 131072 65536 said.events))
+    (bounded 16 EVENT_LIMIT 65536 said.events))
     (bounded 1 64 4 said.workers))
     (bounded 1 16 1 said.threads)
 

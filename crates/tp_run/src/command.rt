@@ -7,7 +7,7 @@ ghost use Rattle.tp_words.specs.Said.{said_in};
 
 use crate::number::number;
 use std::alloc::Global;
-use tp_report::MachineSize;
+use tp_report::{EVENT_LIMIT, MachineSize};
 use tp_words::{Texts, WordFault, WordList, read};
 
 /// What the program is asked to do.
@@ -135,7 +135,7 @@ fn command_said(texts: &Texts) -> Option<Command>
 {
     let threads = bounded(texts.threads, 1, 16, 1)?;
     let workers = bounded(texts.workers, 1, 64, 4)?;
-    let events = bounded(texts.events, 16, 131_072, 65_536)?;
+    let events = bounded(texts.events, 16, EVENT_LIMIT, 65_536)?;
     let seed = seed_in(texts.seed)?;
     let machine = MachineSize { workers, events };
     let json = texts.json;
