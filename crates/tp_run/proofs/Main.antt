@@ -1,16 +1,17 @@
 -- What the whole program tells, by what its command came to.
-use Rattle.std.proofs.Common.{◌≡◌, ℕ, Bool, true, false, List, ◌++◌, Option, None, Some, refl, sym, ap, ◌∙◌, subst}
+use Rattle.std.proofs.Common.{◌≡◌, ℕ, Bool, true, false, List, ◌++◌, Option, None, Some, Result, Ok, Err, refl, sym, ap, ◌∙◌, subst}
 use Rattle.std.proofs.lemmas.List.{append-nil}
 use Rattle.tp_edge.specs.Given.{with_given}
 use Rattle.tp_edge.specs.Taken.{behind, AreAll}
-use Rattle.tp_run.specs.Ends.{status_of, Came, IsAllRead, IsOutput, IsReadIf, IsRun}
+use Rattle.tp_run.specs.Ends.{status_of, Came, IsAllRead, IsOutput, IsReadIf, IsRun, IsTakenTo}
 use Rattle.tp_run.specs.Inputs.{reads, IsInput, IsInputIf}
 use Rattle.tp_run.specs.Runs.{IsAnswered, IsBadLineOf, IsWhole}
 use Rattle.tp_run.specs.declared.command.Command.{Command}
+use Rattle.tp_run.specs.declared.replies.Output.{Output}
 use Rattle.tp_run.specs.declared.status.Ending.{Ending}
 use Rattle.tp_run.specs.declared.status.Ending.TheVariants as ending
 use Rattle.tp_run.specs.declared.status.Status.{Status}
-use Rattle.tp_run.specs.declared.status.Status.TheVariants.{Fine, BadLine, NotLegal, Exhausted, Stalled}
+use Rattle.tp_run.specs.declared.status.Status.TheVariants.{Fine, BadLine, TooLong, NotLegal, Exhausted, Stalled}
 
 -- what was read to its end is all that was left
 input_of : (reads_it : Bool) (taken : List ℕ) (left now : Option (List ℕ)) → left ≡ behind taken now → IsReadIf reads_it taken now → IsInputIf reads_it taken left
@@ -42,3 +43,32 @@ module _ (command : Command) (left now held holds : Option (List ℕ)) (status :
 
   pub bad_line : IsBadLineOf (Some command) left status
   bad_line = bad_line_of status run.came
+
+-- what is told of an output that was written whole
+module _ (command : Command) (left now held holds : Option (List ℕ)) (output : Output) (status : Status) (given : holds ≡ with_given output.text.items held) (ends : status ≡ status_of output.ending) where
+  came_of : (taken : List ℕ) (ending : Ending) → IsAllRead command taken now → IsOutput command taken output.text.items ending → Came command taken now held holds (status_of ending)
+  came_of taken ending.Fine read is = (read, (output.text.items, is, given))
+  came_of taken ending.NotLegal read is = (read, (output.text.items, is, given))
+  came_of taken ending.Exhausted read is = (read, (output.text.items, is, given))
+  came_of taken ending.Stalled read is = (read, (output.text.items, is, given))
+
+  never_long : (ending : Ending) → status_of ending ≡ TooLong → ⊥
+  never_long ending.Fine is = cc
+  never_long ending.NotLegal is = cc
+  never_long ending.Exhausted is = cc
+  never_long ending.Stalled is = cc
+
+  taken_run : IsTakenTo command left now (Ok output) → IsRun command left now held holds status
+  taken_run t = record {
+    taken = t.taken;
+    took = t.took;
+    none = t.none;
+    within = record { too_long = (λ is. absurd (never_long output.ending (sym ends ∙ is)), λ long. absurd (err_of (t.too_long.1 long))); most = t.most };
+    came = subst (λ s. Came command t.taken now held holds s) (sym ends) (came_of t.taken output.ending t.reply.0 t.reply.1);
+  }
+    where
+      err_of : ◌≡◌ {A = Result Output Status} (Ok output) (Err TooLong) → ⊥
+      err_of is = cc
+
+  pub run_written : (reply : Result Output Status) → reply ≡ Ok output → IsTakenTo command left now reply → IsRun command left now held holds status
+  run_written reply is taken = taken_run (subst (λ r. IsTakenTo command left now r) is taken)

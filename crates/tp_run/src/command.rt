@@ -176,16 +176,24 @@ fn command_said(texts: &Texts) -> Option<Command>
 fn name_in(word: &str) -> Option<Name>
     ensures { result ≡ name_in word.now }
 {
-    match word.as_bytes() {
-        b"trace" => Some(Name::Trace),
-        b"history" => Some(Name::History),
-        b"check" => Some(Name::Check),
-        b"migrate" => Some(Name::Migrate),
-        b"gen" => Some(Name::Gen),
-        b"run" => Some(Name::Run),
-        b"big" => Some(Name::Big),
-        _ => None,
-    }
+    let name = if word == "trace" {
+        Name::Trace
+    } else if word == "history" {
+        Name::History
+    } else if word == "check" {
+        Name::Check
+    } else if word == "migrate" {
+        Name::Migrate
+    } else if word == "gen" {
+        Name::Gen
+    } else if word == "run" {
+        Name::Run
+    } else if word == "big" {
+        Name::Big
+    } else {
+        return None;
+    };
+    Some(name)
 }
 
 // A value in its range, or what stands for none.
