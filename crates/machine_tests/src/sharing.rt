@@ -342,7 +342,7 @@ fn notices_told(rt: HostRuntime) {
     expect_eq(&rt, notices.get(0), told_of(1, 5));
     expect_eq(&rt, notices.get(1), told_of(2, 6));
     expect_eq(&rt, notices.get(2), None);
-    expect_eq(&rt, notices.spare(), 4_093);
+    expect_eq(&rt, notices.spare(), 65_533);
     drop(worker);
     drop(seats);
     drop(pool);
