@@ -1,0 +1,4 @@
+pub mod Accepted
+pub mod Completions
+pub mod Interleaved
+pub mod SetUp

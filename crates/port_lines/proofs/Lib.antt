@@ -1,0 +1,4 @@
+pub mod DeviceFacts
+mod Examples
+pub mod LineFacts
+pub mod SoFar
