@@ -5,7 +5,7 @@ use Rattle.tp_report.specs.declared.headers.TheConstants.{EVENT_LIMIT}
 use Rattle.tp_report.specs.declared.playing.MachineSize.{MachineSize}
 use Rattle.tp_run.specs.Numbers.{number_in}
 use Rattle.tp_run.specs.declared.command.Command.{Command}
-use Rattle.tp_run.specs.declared.command.Command.TheVariants.{Trace, History, Check, Migrate, Gen, Run, Big}
+use Rattle.tp_run.specs.declared.command.Command.TheVariants.{Trace, History, Check, Migrate, Port, Gen, Run, Big}
 use Rattle.tp_run.specs.declared.command.Name.{Name}
 use Rattle.tp_run.specs.declared.command.Name.TheVariants as name
 use Rattle.tp_words.specs.Said.{said, Said}
@@ -17,6 +17,7 @@ name_in word =
     else if bytes_eq word (codes "history") then Some name.History
     else if bytes_eq word (codes "check") then Some name.Check
     else if bytes_eq word (codes "migrate") then Some name.Migrate
+    else if bytes_eq word (codes "port") then Some name.Port
     else if bytes_eq word (codes "gen") then Some name.Gen
     else if bytes_eq word (codes "run") then Some name.Run
     else if bytes_eq word (codes "big") then Some name.Big
@@ -59,6 +60,7 @@ command_named name.Trace threads seed machine json number = without_number numbe
 command_named name.History threads seed machine json number = without_number number (History machine)
 command_named name.Check threads seed machine json number = without_number number Check
 command_named name.Migrate threads seed machine json number = without_number number Migrate
+command_named name.Port threads seed machine json number = without_number number Port
 command_named name.Gen threads seed machine json number = with_number number (λ n. Gen n)
 command_named name.Run threads seed machine json number = without_number number (Run threads seed machine json)
 command_named name.Big threads seed machine json number = with_number number (λ n. Big n machine json)

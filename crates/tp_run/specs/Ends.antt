@@ -4,6 +4,8 @@ use Rattle.tp_edge.specs.Given.{with_given, TookFirst}
 use Rattle.tp_edge.specs.Taken.{behind, IsEnded}
 use Rattle.tp_edge.specs.declared.reading.ReadFault.{ReadFault as SourceFault}
 use Rattle.tp_edge.specs.declared.reading.ReadFault.TheVariants as source
+use Rattle.port_lines.specs.declared.faults.PortFault.{PortFault}
+use Rattle.port_lines.specs.declared.faults.PortFault.TheVariants as port
 use Rattle.tp_report.specs.declared.faults.TextFault.{TextFault}
 use Rattle.tp_report.specs.declared.faults.TextFault.TheVariants as text
 use Rattle.tp_run.specs.Inputs.{Gives, IsDetermined, IsFaultyAt, IsInGrammar, IsScriptFaultAt, reads}
@@ -37,6 +39,11 @@ status_of ending.Stalled = Stalled
 abbrev pub status_of_text : TextFault → Status
 status_of_text text.NoMemory = NoMemory
 status_of_text (text.At line column) = BadLine line column
+
+-- the end that a fault of a text of devices leads to
+abbrev pub status_of_port : PortFault → Status
+status_of_port port.NoMemory = NoMemory
+status_of_port (port.At line column) = BadLine line column
 
 -- an end that a fault of a script leads to
 abbrev pub status_of_script : ScriptFault → Status

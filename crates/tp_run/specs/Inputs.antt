@@ -7,11 +7,12 @@ use Rattle.tp_base.specs.declared.ids.Who.{Who}
 use Rattle.tp_edge.specs.Taken.{AreAll}
 use Rattle.tp_lines.specs.Calls.{IsLine}
 use Rattle.tp_run.specs.declared.command.Command.{Command}
-use Rattle.tp_run.specs.declared.command.Command.TheVariants.{Trace, History, Check, Migrate, Gen, Run, Big}
+use Rattle.tp_run.specs.declared.command.Command.TheVariants.{Trace, History, Check, Migrate, Port, Gen, Run, Big}
 use Rattle.tp_run.specs.declared.played.Layout.{Layout}
 use Rattle.tp_run.specs.declared.status.Ending.{Ending}
 use Rattle.tp_run.specs.declared.status.Ending.TheVariants.{Fine, NotLegal}
 use Rattle.tp_run.specs.Played.{IsPlayed, limits_for, long_script}
+use Rattle.tp_run.specs.Ported.{IsPorted}
 use Rattle.tp_report.specs.Histories.{IsHistory, IsHistoryFault}
 use Rattle.tp_report.specs.Traces.{IsMachineSize, IsTraceOf, history_output_of, output_of}
 use Rattle.tp_report.specs.Verdicts.{IsVerdict, limits_of, migrated_text, verdict_text}
@@ -20,6 +21,8 @@ use Rattle.tp_report.specs.declared.lines.Line.{Line as HistoryLine}
 use Rattle.tp_report.specs.declared.playing.MachineSize.{MachineSize}
 use Rattle.tp_report.specs.declared.verdict.Verdict.{Verdict}
 use Rattle.tp_report.specs.declared.verdict.Verdict.TheVariants as verdict
+use Rattle.port_lines.specs.Texts.{IsPortFault, IsPortText}
+use Rattle.port_lines.specs.declared.lines.Operation.{Operation}
 use Rattle.script_lines.specs.declared.fault.ScriptKind.{ScriptKind}
 use Rattle.script_lines.specs.declared.line.Line.{Line}
 use Rattle.tp_script.specs.Scripts.{IsFaultIn, IsScript}
@@ -48,6 +51,10 @@ pub record IsJudged (bytes output : List ℕ) (ending : Ending) (written : Heade
   pub output_is : output ≡ written header lines told
   pub ending_is : ending ≡ ending_of told
 
+-- the text tells devices, and this is written of what they complete, and its ending
+abbrev pub IsPortedOf : List ℕ → List ℕ → Ending → Type 0
+IsPortedOf bytes output ending = (devices : List (List Operation)) × IsPortText bytes devices × IsPorted devices output ending
+
 -- the text is no script, and this is the place of its first fault
 abbrev pub IsScriptFaultAt : List ℕ → ℕ → ℕ → Type 0
 IsScriptFaultAt text line column = (kind : ScriptKind) × IsFaultIn text line column kind
@@ -69,6 +76,7 @@ IsPlayable (Trace machine) = IsMachineSize machine
 IsPlayable (History machine) = IsMachineSize machine
 IsPlayable Check = Unit {0}
 IsPlayable Migrate = Unit {0}
+IsPlayable Port = Unit {0}
 IsPlayable (Gen number) = Unit {0}
 IsPlayable (Run threads seed machine json) = (1 ≤ threads) × (is_some seed ≡ true → threads ≡ 1) × IsMachineSize machine
 IsPlayable (Big number machine json) = IsMachineSize machine
@@ -80,6 +88,7 @@ reads (Some (Trace machine)) = true
 reads (Some (History machine)) = true
 reads (Some Check) = true
 reads (Some Migrate) = true
+reads (Some Port) = true
 reads (Some (Gen number)) = false
 reads (Some (Run threads seed machine json)) = true
 reads (Some (Big number machine json)) = false
@@ -107,12 +116,15 @@ Gives (Some (Trace machine)) bytes output ending = (calls : List (Who × Call)) 
 Gives (Some (History machine)) bytes output ending = (calls : List (Who × Call)) × IsTraceOf bytes calls × (output ≡ history_output_of machine calls) × (ending ≡ Fine)
 Gives (Some Check) bytes output ending = IsJudged bytes output ending verdict_written
 Gives (Some Migrate) bytes output ending = IsJudged bytes output ending migration_written
+Gives (Some Port) bytes output ending = IsPortedOf bytes output ending
 Gives (Some (Gen number)) bytes output ending = (output ≡ generated number 64) × (ending ≡ Fine)
 Gives (Some (Run threads seed machine json)) bytes output ending = IsPlayedOf bytes threads seed machine (whole_layout json) output ending
 Gives (Some (Big number machine json)) bytes output ending = IsPlayedOf (long_script number) 1 None machine (short_layout json) output ending
 
--- the command has one output for an input; a run on several threads may have more, by the order in which its actors have turns
+-- the command has one output for an input; a run on several threads may have more, by the order in which its actors have turns,
+-- and so may devices, by the order in which they post
 abbrev pub IsDetermined : Option Command → Type 0
+IsDetermined (Some Port) = ⊥
 IsDetermined (Some (Run threads seed machine json)) = threads ≡ 1
 IsDetermined _ = Unit {0}
 
@@ -122,6 +134,7 @@ IsInGrammar None bytes = ⊥
 IsInGrammar (Some (Trace machine)) bytes = (calls : List (Who × Call)) × IsTraceOf bytes calls
 IsInGrammar (Some (History machine)) bytes = (calls : List (Who × Call)) × IsTraceOf bytes calls
 IsInGrammar (Some Migrate) bytes = (header : Header) × (lines : List HistoryLine) × IsHistory bytes header lines
+IsInGrammar (Some Port) bytes = (devices : List (List Operation)) × IsPortText bytes devices
 IsInGrammar (Some Check) bytes = (header : Header) × (lines : List HistoryLine) × IsHistory bytes header lines
 IsInGrammar (Some (Gen number)) bytes = Unit {0}
 IsInGrammar (Some (Run threads seed machine json)) bytes = (script : List Line) × IsScript bytes script
@@ -134,6 +147,7 @@ IsFaultyAt (Some (Trace machine)) bytes line column = IsTraceFault IsLine bytes 
 IsFaultyAt (Some (History machine)) bytes line column = IsTraceFault IsLine bytes line column
 IsFaultyAt (Some Check) bytes line column = IsHistoryFault bytes line column
 IsFaultyAt (Some Migrate) bytes line column = IsHistoryFault bytes line column
+IsFaultyAt (Some Port) bytes line column = IsPortFault bytes line column
 IsFaultyAt (Some (Gen number)) bytes line column = ⊥
 IsFaultyAt (Some (Run threads seed machine json)) bytes line column = IsScriptFaultAt bytes line column
 IsFaultyAt (Some (Big number machine json)) bytes line column = ⊥

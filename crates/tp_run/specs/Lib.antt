@@ -4,4 +4,5 @@ pub mod Ends
 pub mod Inputs
 pub mod Numbers
 pub mod Played
+pub mod Ported
 pub mod Runs

@@ -25,6 +25,9 @@ pub enum Command {
     Check,
     /// Reads a history, and writes it in format 2 if it is legal, or else what `Check` writes.
     Migrate,
+    /// Lets the devices that the input tells complete their operations, each on a thread of its own, and writes the
+    /// history and its summary.
+    Port,
     /// Reads nothing, and writes the script of a number.
     Gen {
         number: u64,
@@ -59,10 +62,10 @@ pub struct Several {
 }
 
 impl Command {
-    ghost use Rattle.std.specs.Prelude.{◌≡◌, ◌<◌, None, Some, IfSome};
+    ghost use Rattle.std.specs.Prelude.{◌≡◌, ◌<◌, ◌⊎◌, None, Some, IfSome};
     ghost use Rattle.tp_report.specs.Traces.{IsMachineSize};
     ghost use Rattle.tp_run.specs.Inputs.{reads, IsDetermined, IsPlayable};
-    ghost use Rattle.tp_run.specs.declared.command.Command.TheVariants.{Run};
+    ghost use Rattle.tp_run.specs.declared.command.Command.TheVariants.{Port, Run};
 
     /// The run on several threads that the command is, if it is one.
     pub fn on_several(self) -> Option<Several>
@@ -70,7 +73,7 @@ impl Command {
         ensures run { IfSome result (λ several. self ≡ Run several.threads None several.machine several.json) }
         ensures threads { IfSome result (λ several. 1 < several.threads) }
         ensures size { IfSome result (λ several. IsMachineSize several.machine) }
-        ensures none { result ≡ None → IsDetermined (Some self) }
+        ensures none { result ≡ None → IsDetermined (Some self) ⊎ (self ≡ Port) }
     {
         match self {
             Command::Run {
@@ -96,6 +99,7 @@ impl Command {
             | Command::History { .. }
             | Command::Check
             | Command::Migrate
+            | Command::Port
             | Command::Run { .. } => true,
             Command::Gen { .. } | Command::Big { .. } => false,
         }
@@ -109,6 +113,7 @@ pub enum Name {
     History,
     Check,
     Migrate,
+    Port,
     Gen,
     Run,
     Big,
@@ -148,6 +153,7 @@ fn command_said(texts: &Texts) -> Option<Command>
         Name::History => without_number(texts.number, Command::History { machine }),
         Name::Check => without_number(texts.number, Command::Check),
         Name::Migrate => without_number(texts.number, Command::Migrate),
+        Name::Port => without_number(texts.number, Command::Port),
         Name::Gen => {
             let number = number(texts.number?.as_bytes())?;
             Some(Command::Gen { number })
@@ -184,6 +190,8 @@ fn name_in(word: &str) -> Option<Name>
         Name::Check
     } else if word == "migrate" {
         Name::Migrate
+    } else if word == "port" {
+        Name::Port
     } else if word == "gen" {
         Name::Gen
     } else if word == "run" {

@@ -16,6 +16,7 @@
 mod command;
 mod number;
 mod played;
+mod ported;
 mod replies;
 mod status;
 mod top;

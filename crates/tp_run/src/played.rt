@@ -192,7 +192,7 @@ fn output_behind<B: Recorded>(
 }
 
 // Appends the summary.
-fn append_totals<B: Recorded>(
+pub(crate) fn append_totals<B: Recorded>(
     alloc: Global,
     json: bool,
     book: &Counted<B>,

@@ -6,17 +6,20 @@ ghost use Rattle.tp_report.specs.Traces.{IsMachineSize};
 ghost use Rattle.tp_report.specs.Verdicts.{verdict_text};
 ghost use Rattle.tp_run.specs.Inputs.{ending_of, short_layout, whole_layout, IsPlayable, IsPlayedOf};
 ghost use Rattle.tp_run.specs.Played.{long_script};
-ghost use Rattle.tp_run.specs.declared.command.Command.TheVariants.{Migrate, Run};
+ghost use Rattle.tp_run.specs.declared.command.Command.TheVariants.{Migrate, Port, Run};
 
 use crate::command::{Command, Several};
 use crate::played::{play_script, play_script_alone, play_script_drawn, play_unwritten};
+use crate::ported::{play_port, play_port_alone};
 use crate::status::{Ending, Status};
 use crate::top::INPUT_LIMIT;
+use port_lines::read_devices;
 use recorded::Recorded;
 use script_generator::{generate, generated_is_script};
 use std::alloc::{AllocError, Global};
 use std::sync::Wait;
 use std::thread::Threads;
+use tp_port::PortGate;
 use tp_report::{MachineSize, Verdict, check, history, migrate, print_verdict, trace};
 use tp_script::{ScriptFault, one_script_a_text, parse_script};
 use worker_gate::{Gate, one_history_alone, one_history_drawn};
@@ -26,6 +29,13 @@ const SCRIPT_LENGTH: u32 = 64;
 
 /// The same in the script that is played for a number.
 const LONG_SCRIPT_LENGTH: u32 = 2_000;
+
+// A gate that stands open: no device waits before its first completion.
+struct OpenGate;
+
+impl PortGate for OpenGate {
+    fn before(&self, _device: u32) {}
+}
 
 /// What a command makes of its input.
 #[derive(Drop)]
@@ -68,6 +78,7 @@ pub fn reply<B: Recorded, G: Gate>(
             Ok(output_of(alloc, &verdict)?)
         }
         Command::Migrate => migrated::<B>(alloc, bytes),
+        Command::Port => port_alone::<B>(alloc, bytes),
         Command::Gen { number } => {
             let text = generate(alloc, number, SCRIPT_LENGTH)?;
             Ok(Output {
@@ -110,6 +121,30 @@ fn migrated<B: Recorded>(alloc: Global, bytes: &[u8]) -> Result<Output, Status>
         return Ok(Output { text, ending });
     }
     let output = output_of(alloc, &verdict)?;
+    Ok(output)
+}
+
+// What `port` writes of the devices that are its input, where one completes its operations behind the other.
+fn port_alone<B: Recorded>(alloc: Global, bytes: &[u8]) -> Result<Output, Status>
+    requires few { length bytes.now ≤ INPUT_LIMIT }
+    ensures { IsReply Port bytes.now result }
+{
+    let devices = read_devices(alloc, bytes)?;
+    let output = play_port_alone::<B>(alloc, devices)?;
+    Ok(output)
+}
+
+// The same where each does so on a thread of its own. It waits for them.
+fn port<Rt: Threads + Wait + Sync, B: Recorded>(
+    rt: &Rt,
+    alloc: Global,
+    bytes: &[u8],
+) -> Result<Output, Status>
+    requires few { length bytes.now ≤ INPUT_LIMIT }
+    ensures { IsReply Port bytes.now result }
+{
+    let devices = read_devices(alloc, bytes)?;
+    let output = play_port::<Rt, B, OpenGate>(rt, alloc, devices, &OpenGate)?;
     Ok(output)
 }
 
@@ -170,8 +205,30 @@ fn play_number<B: Recorded, G: Gate>(
     play_unwritten::<B, G>(alloc, &script, machine, json, gate)
 }
 
-/// The output of a run on several threads for its whole input. It waits for them.
-pub fn reply_on_several<Rt: Threads + Wait + Sync, B: Recorded + Send, G: Gate + Sync>(
+/// The same, with threads of their own for a script that is to be played on several, and for devices. It waits for
+/// them.
+pub fn reply_on_threads<Rt: Threads + Wait + Sync, B: Recorded + Send, G: Gate + Sync>(
+    rt: &Rt,
+    alloc: Global,
+    command: Command,
+    bytes: &[u8],
+    gate: &G,
+) -> Result<Output, Status>
+    requires few { length bytes.now ≤ INPUT_LIMIT }
+    requires playable { IsPlayable command }
+    ensures { IsReply command bytes.now result }
+{
+    if let Some(several) = command.on_several() {
+        return reply_on_several::<Rt, B, G>(rt, alloc, bytes, several, gate);
+    }
+    if let Command::Port = command {
+        return port::<Rt, B>(rt, alloc, bytes);
+    }
+    reply::<B, G>(alloc, command, bytes, gate)
+}
+
+// The output of a run on several threads.
+fn reply_on_several<Rt: Threads + Wait + Sync, B: Recorded + Send, G: Gate + Sync>(
     rt: &Rt,
     alloc: Global,
     bytes: &[u8],

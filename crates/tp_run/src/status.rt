@@ -2,6 +2,7 @@
 
 ghost use Rattle.std.specs.Prelude.{◌≡◌};
 
+use port_lines::PortFault;
 use std::alloc::AllocError;
 use tp_edge::ReadFault;
 use tp_report::{TextFault, Verdict};
@@ -133,6 +134,19 @@ impl From<ScriptFault> for Status {
         match fault {
             ScriptFault::NoMemory => Status::NoMemory,
             ScriptFault::At { line, column, .. } => Status::BadLine { line, column },
+        }
+    }
+}
+
+impl From<PortFault> for Status {
+    ghost use Rattle.tp_run.specs.Ends.{status_of_port};
+
+    ghost from_gives = { λ fault status. status ≡ status_of_port fault };
+
+    fn from(fault: PortFault) -> Self {
+        match fault {
+            PortFault::NoMemory => Status::NoMemory,
+            PortFault::At { line, column } => Status::BadLine { line, column },
         }
     }
 }

@@ -7,15 +7,13 @@ ghost use Rattle.tp_edge.specs.Reading.{IsRead};
 ghost use Rattle.tp_edge.specs.Taken.{behind, IsAbove, IsEnded};
 ghost use Rattle.tp_run.specs.Commands.{command_of};
 ghost use Rattle.tp_run.specs.Ends.{IsAllRead, IsRun, IsTakenTo, status_of};
-ghost use Rattle.tp_report.specs.Traces.{IsMachineSize};
 ghost use Rattle.tp_run.specs.Inputs.{Gives, IsDetermined, IsInGrammar, IsPlayable, IsTold, reads};
 ghost use Rattle.tp_run.specs.Runs.{IsAnswered, IsBadLine, IsBadLineOf, IsReadToEnd, IsUnwritten, IsWhole, IsWithin};
 ghost use Rattle.tp_run.specs.declared.command.Command.{Command};
-ghost use Rattle.tp_run.specs.declared.command.Command.TheVariants.{Run};
 ghost use Rattle.tp_run.specs.declared.status.Ending.{Ending};
 
-use crate::command::{Command, Several, command_in};
-use crate::replies::{Output, reply, reply_on_several};
+use crate::command::{Command, command_in};
+use crate::replies::{Output, reply, reply_on_threads};
 use crate::status::Status;
 use recorded::Recorded;
 use std::alloc::Global;
@@ -38,7 +36,7 @@ pub const INPUT_LIMIT: usize = 25_165_824;
 ///
 /// `run` and `big` play with all clients and workers at the gate. A wait of theirs that nobody can end is
 /// answered `stalled`, so that the script goes on to its end. `run` with more than one thread waits for
-/// them. All else is done by functions that take no `rt`, so that they return.
+/// them, and `port` for its devices. All else is done by functions that take no `rt`, so that they return.
 pub fn tp_main<Rt: Threads + Wait + Sync, B: Recorded + Send, S: Source, K: Sink, G: Gate + Sync>(
     rt: &Rt,
     alloc: Global,
@@ -84,19 +82,14 @@ pub fn tp_main<Rt: Threads + Wait + Sync, B: Recorded + Send, S: Source, K: Sink
     match command_in(alloc, words) {
         Err(WordFault::Refused) => Status::Words,
         Err(WordFault::NoMemory) => Status::NoMemory,
-        Ok(command) => match command.on_several() {
-            Some(several) => {
-                run_on_several::<Rt, B, S, K, G>(rt, alloc, several, source, sink, gate)
-            }
-            None => run::<B, S, K, G>(alloc, command, source, sink, gate),
-        },
+        Ok(command) => run_on_threads::<Rt, B, S, K, G>(rt, alloc, command, source, sink, gate),
     }
 }
 
 /// What `tp_main` does, on this thread alone. It has nothing to wait by, and returns.
 ///
 /// A script whose words ask for more threads is played on this one: of the outputs that there may be with
-/// those, it writes the one that there is with one.
+/// those, it writes the one that there is with one. Of devices one completes its operations behind the other.
 pub fn tp_main_alone<B: Recorded, S: Source, K: Sink, G: Gate>(
     alloc: Global,
     words: &WordList,
@@ -166,24 +159,24 @@ fn run<B: Recorded, S: Source, K: Sink, G: Gate>(
     write_reply(sink, reply)
 }
 
-// Reads a script, plays it on several threads, and writes what is to be written of the run.
-fn run_on_several<
+// The same, with threads for a script that is to be played on several, and for devices.
+fn run_on_threads<
     Rt: Threads + Wait + Sync,
     B: Recorded + Send,
     S: Source,
     K: Sink,
     G: Gate + Sync,
->(rt: &Rt, alloc: Global, several: Several, source: &mut S, sink: &mut K, gate: &G) -> Status
-    requires threads { 1 < several.threads }
-    requires size { IsMachineSize several.machine }
-    ensures run { IsRun (Run several.threads None several.machine several.json) (S.left source.old) (S.left source.new) (K.holds sink.old) (K.holds sink.new) result }
+>(rt: &Rt, alloc: Global, command: Command, source: &mut S, sink: &mut K, gate: &G) -> Status
+    requires { IsPlayable command }
+    ensures run { IsRun command (S.left source.old) (S.left source.new) (K.holds sink.old) (K.holds sink.new) result }
+    ensures unread { reads (Some command) ≡ false → source.new ≡ source.old }
     ensures unwritten { IsUnwritten result → sink.new ≡ sink.old }
     ensures read_fault { result ≡ Status.ReadFault → Rose (S.failures source.old) (S.failures source.new) }
     ensures write_fault { result ≡ Status.WriteFault → Rose (K.failures sink.old) (K.failures sink.new) }
     ensures source_never_falls { S.failures source.old ≤ S.failures source.new }
     ensures sink_never_falls { K.failures sink.old ≤ K.failures sink.new }
 {
-    let reply = play_on_several::<Rt, B, S, G>(rt, alloc, several, source, gate);
+    let reply = read_output_on_threads::<Rt, B, S, G>(rt, alloc, command, source, gate);
     write_reply(sink, reply)
 }
 
@@ -222,28 +215,21 @@ fn read_output<B: Recorded, S: Source, G: Gate>(
     reply::<B, G>(alloc, command, &bytes, gate)
 }
 
-// Reads a script to its end, and answers what is to be written of a run of it on several threads.
-fn play_on_several<Rt: Threads + Wait + Sync, B: Recorded + Send, S: Source, G: Gate + Sync>(
-    rt: &Rt,
-    alloc: Global,
-    several: Several,
-    source: &mut S,
-    gate: &G,
-) -> Result<Output, Status>
-    requires threads { 1 < several.threads }
-    requires size { IsMachineSize several.machine }
-    ensures taken { IsTakenTo (Run several.threads None several.machine several.json) (S.left source.old) (S.left source.new) result }
+// The same, with threads for a script that is to be played on several, and for devices.
+fn read_output_on_threads<
+    Rt: Threads + Wait + Sync,
+    B: Recorded + Send,
+    S: Source,
+    G: Gate + Sync,
+>(rt: &Rt, alloc: Global, command: Command, source: &mut S, gate: &G) -> Result<Output, Status>
+    requires { IsPlayable command }
+    ensures taken { IsTakenTo command (S.left source.old) (S.left source.new) result }
+    ensures unread { reads (Some command) ≡ false → source.new ≡ source.old }
     ensures read_fault { result ≡ Err Status.ReadFault → Rose (S.failures source.old) (S.failures source.new) }
     ensures never_falls { S.failures source.old ≤ S.failures source.new }
 {
-    let command = Command::Run {
-        threads: several.threads,
-        seed: None,
-        machine: several.machine,
-        json: several.json,
-    };
     let bytes = read_input(alloc, command, source)?;
-    reply_on_several::<Rt, B, G>(rt, alloc, &bytes, several, gate)
+    reply_on_threads::<Rt, B, G>(rt, alloc, command, &bytes, gate)
 }
 
 // All that the source has, or nothing where the command has no input.
