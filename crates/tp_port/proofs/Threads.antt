@@ -71,7 +71,7 @@ started_next port devices posts yielded rest pass list started after s ready par
     let inside : length yielded < length devices = omega (arith, ap length parts, length-append yielded (pass ∷ rest), ready.count) in
     let last : (d : Vec Completion) → IsStarted port (length started + 1) (get_or devices (length started) d).items s
     = λ d. subst (λ (n : ℕ). IsStarted port (n + 1) (get_or devices n d).items s) (sym count)
-        (subst (λ (x : ℕ × Vec Completion). IsStarted port x.0 x.1.items s) (λ i. (at.at.number_is i, (is ∙ get_or_default devices (length yielded) list d inside) i)) here) in
+    (subst (λ (x : ℕ × Vec Completion). IsStarted port x.0 x.1.items s) (λ i. (at.at.number_is i, (is ∙ get_or_default devices (length yielded) list d inside) i)) here) in
     record {
       count = ap length after_is ∙ omega (arith, length-append started (s ∷ []), length-append yielded (pass ∷ []));
       each = subst (λ (l : List Started). (k : ℕ) (d : Vec Completion) (x : Started) → k < length l → IsStarted port (k + 1) (get_or devices k d).items (get_or l k x)) (sym after_is)

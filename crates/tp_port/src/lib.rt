@@ -24,6 +24,5 @@ mod views;
 pub use devices::PortGate;
 pub use passes::{LastPass, PostPass, TakePass};
 pub use port::{Port, open};
-pub use pumps::pump;
-
 pub use port_facts::{Completion, Posted};
+pub use pumps::pump;

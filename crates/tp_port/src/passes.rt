@@ -1,8 +1,8 @@
 //! Passes: by what devices and the taker step, and what they know.
 
 use crate::views::Part;
-use port_facts::Posted;
 use crossbeam_queue::Pass;
+use port_facts::Posted;
 
 pub(crate) type Raw = Pass<Posted, Part>;
 

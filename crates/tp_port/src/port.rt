@@ -8,8 +8,8 @@ ghost use Rattle.tp_port.specs.Ports.{posted_by, quota, AreBack, AreDealt, HasPo
 use crate::passes::{LastPass, PostPass, Raw, TakePass};
 use crate::rule::{Begins, Deals, Delivery, Gathers, Puts, Quoted, Takes, TakesLast};
 use crate::views::Part;
-use port_facts::{Completion, Posted};
 use crossbeam_queue::RuledArrayQueue;
+use port_facts::{Completion, Posted};
 use std::alloc::{AllocError, Global};
 use std::marker::Brand;
 use std::sync::Wait;

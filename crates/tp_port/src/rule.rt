@@ -6,8 +6,8 @@ ghost use Rattle.tp_port.specs.Parts.{begun, dealt, gathered, undealt, opening_p
 ghost use Rattle.tp_port.specs.Rule.{AreBegun, AreKnown, Delivers};
 
 use crate::views::Part;
-use port_facts::Posted;
 use crossbeam_queue::protocol::{Join, Lesson, Outcome, Protocol, Split};
+use port_facts::Posted;
 use std::marker::{Brand, PhantomData};
 
 pub(crate) struct Delivery;

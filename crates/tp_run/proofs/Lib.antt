@@ -1,4 +1,5 @@
 pub mod Checked
+pub mod Devices
 pub mod Main
 pub mod Numbers
 pub mod Scripted

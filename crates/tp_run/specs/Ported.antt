@@ -1,7 +1,9 @@
 -- What is written of devices and their operations.
-use Rattle.std.specs.Prelude.{◌≡◌, ℕ, ◌+◌, List, length}
+use Rattle.std.specs.Prelude.{◌≡◌, ℕ, ◌+◌, ◌++◌, true, false, List, length}
 use Rattle.port_calls.specs.PortCalls.{numbered, objects_of}
+use Rattle.port_facts.specs.Completions.{completions}
 use Rattle.port_facts.specs.Interleaved.{port_history, IsInterleaving}
+use Rattle.port_facts.specs.SetUp.{set_up}
 use Rattle.port_facts.specs.declared.Posted.{Posted}
 use Rattle.port_lines.specs.declared.lines.Operation.{Operation}
 use Rattle.recorded.specs.ProgramLimits.{program_limits}
@@ -22,6 +24,10 @@ limits_of devices = program_limits (length devices + 1) 4
 -- posted is completed in this order; and the devices' clients finish
 abbrev pub history_of : List (List Operation) → List Posted → List Entry
 history_of devices posted = port_history (length devices) (objects_of devices) posted
+
+-- what the machine has recorded behind the set-up and what was posted
+abbrev pub behind_posted : List (List Operation) → List Posted → Recording
+behind_posted devices posted = record { limits = limits_of devices; capacity = 65536; history = set_up (length devices) (objects_of devices) ++ completions posted }
 
 -- the devices completed their operations, and this was written, and its ending
 pub record IsPorted (devices : List (List Operation)) (output : List ℕ) (ending : Ending) : Type 0 where

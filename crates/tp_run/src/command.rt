@@ -1,7 +1,7 @@
 //! What the program is asked to do.
 
-ghost use Rattle.std.specs.Prelude.{◌≡◌, ◌≤◌, IfOk, IfSome, Err, None, Some, option_map};
-ghost use Rattle.tp_run.specs.Commands.{bounded, command_of, command_said, name_in, seed_in, without_number};
+ghost use Rattle.std.specs.Prelude.{◌≡◌, ◌≤◌, IfOk, IfSome, Err, None, Some, false, is_some, option_map, true};
+ghost use Rattle.tp_run.specs.Commands.{bounded, command_of, command_said, is_seed_for_nothing, name_in, seed_in, without_number};
 ghost use Rattle.tp_run.specs.Inputs.{IsPlayable};
 ghost use Rattle.tp_words.specs.Said.{said_in};
 
@@ -145,7 +145,7 @@ fn command_said(texts: &Texts) -> Option<Command>
     let machine = MachineSize { workers, events };
     let json = texts.json;
     let name = name_in(texts.command?)?;
-    if seed.is_some() && !(matches!(name, Name::Run) && threads == 1) {
+    if is_seed_for_nothing(name, threads, seed) {
         return None;
     }
     match name {
@@ -233,6 +233,14 @@ fn seed_in(value: Option<&str>) -> Option<Option<u64>>
             Some(Some(seed))
         }
     }
+}
+
+// Whether there is a seed, and no run on one thread for it.
+fn is_seed_for_nothing(name: Name, threads: u32, seed: Option<u64>) -> bool
+    ensures value { result ≡ is_seed_for_nothing name threads seed }
+    ensures alone { result ≡ false → is_some seed ≡ true → threads ≡ 1 }
+{
+    seed.is_some() && !(matches!(name, Name::Run) && threads == 1)
 }
 
 // A command that wants no number behind it.

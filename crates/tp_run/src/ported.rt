@@ -2,13 +2,12 @@
 
 ghost use Rattle.std.specs.Prelude.{◌≡◌, ◌+◌, ◌≤◌, ◌++◌, List, length, IfOk};
 ghost use Rattle.port_calls.specs.PortCalls.{numbered, objects_of};
-ghost use Rattle.port_facts.specs.Completions.{completions};
 ghost use Rattle.port_facts.specs.Interleaved.{IsInterleaving};
-ghost use Rattle.port_facts.specs.SetUp.{behind_set_up, set_up};
+ghost use Rattle.port_facts.specs.SetUp.{behind_set_up};
 ghost use Rattle.port_facts.specs.declared.Posted.{Posted as Post};
 ghost use Rattle.port_lines.specs.Texts.{lists_of, AreDevices};
 ghost use Rattle.port_lines.specs.declared.lines.Operation.{Operation as DeviceOperation};
-ghost use Rattle.tp_run.specs.Ported.{limits_of, IsPorted};
+ghost use Rattle.tp_run.specs.Ported.{behind_posted, limits_of, IsPorted};
 
 use crate::played::append_totals;
 use crate::replies::Output;
@@ -39,38 +38,44 @@ const EVENTS: u32 = 65_536;
 pub fn play_port<Rt: Threads + Wait + Sync, B: Recorded, G: PortGate + Sync>(
     rt: &Rt,
     alloc: Global,
-    devices: Vec<Vec<Operation>>,
+    devices: &[Vec<Operation>],
     gate: &G,
 ) -> Result<Output, AllocError>
-    requires { AreDevices (lists_of devices.items) }
-    ensures { IfOk result (λ output. IsPorted (lists_of devices.items) output.text.items output.ending) }
+    requires { AreDevices (lists_of devices.now) }
+    ensures { IfOk result (λ output. IsPorted (lists_of devices.now) output.text.items output.ending) }
 {
-    let book = set_up::<Written<Counted<B>>>(alloc, &devices)?;
-    let lists = completions_of(alloc, &devices)?;
+    port_text_fits();
+    set_up_is_accepted();
+    let book = set_up::<Written<Counted<B>>>(alloc, devices)?;
+    let lists = completions_of(alloc, devices)?;
     let (book, pumped) = pump(rt, alloc, book, lists, gate);
     pumped?;
-    finish(alloc, &devices, book)
+    finish(alloc, devices, book)
 }
 
 /// The same on this thread alone: each device completes all of its operations behind the device before.
 pub fn play_port_alone<B: Recorded>(
     alloc: Global,
-    devices: Vec<Vec<Operation>>,
+    devices: &[Vec<Operation>],
 ) -> Result<Output, AllocError>
-    requires { AreDevices (lists_of devices.items) }
-    ensures { IfOk result (λ output. IsPorted (lists_of devices.items) output.text.items output.ending) }
+    requires { AreDevices (lists_of devices.now) }
+    ensures { IfOk result (λ output. IsPorted (lists_of devices.now) output.text.items output.ending) }
 {
-    let mut book = set_up::<Written<Counted<B>>>(alloc, &devices)?;
-    let lists = completions_of(alloc, &devices)?;
+    port_text_fits();
+    set_up_is_accepted();
+    completions_are_accepted();
+    let mut book = set_up::<Written<Counted<B>>>(alloc, devices)?;
+    let _len = book.len();
+    let lists = completions_of(alloc, devices)?;
     let calls = completion_calls(alloc, &lists)?;
     make_all(&mut book, &calls);
-    finish(alloc, &devices, book)
+    finish(alloc, devices, book)
 }
 
 // A new machine on which client 1 has made the devices' objects and started their operations.
 fn set_up<B: Recorded>(alloc: Global, devices: &[Vec<Operation>]) -> Result<B, AllocError>
     requires { AreDevices (lists_of devices.now) }
-    ensures { IfOk result (λ book. B.recording book ≡ behind_set_up (limits_of (lists_of devices.now)) 65536 (length devices.now) (objects_of (lists_of devices.now))) }
+    ensures { IfOk result (λ book. B.recording book ≡ behind_set_up (limits_of (lists_of devices.now)) 65536 (length (lists_of devices.now)) (objects_of (lists_of devices.now))) }
 {
     port_text_fits();
     set_up_is_accepted();
@@ -89,7 +94,7 @@ fn finish<B: Recorded>(
 ) -> Result<Output, AllocError>
     requires { AreDevices (lists_of devices.now) }
     ensures { (posted : List Post) → IsInterleaving (numbered (lists_of devices.now)) posted →
-        book ≡ record (behind_set_up (limits_of (lists_of devices.now)) 65536 (length devices.now) (objects_of (lists_of devices.now))) { history = set_up (length devices.now) (objects_of (lists_of devices.now)) ++ completions posted } →
+        book ≡ behind_posted (lists_of devices.now) posted →
         IfOk result (λ output. IsPorted (lists_of devices.now) output.text.items output.ending) }
 {
     port_text_fits();

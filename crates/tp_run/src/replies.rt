@@ -130,7 +130,7 @@ fn port_alone<B: Recorded>(alloc: Global, bytes: &[u8]) -> Result<Output, Status
     ensures { IsReply Port bytes.now result }
 {
     let devices = read_devices(alloc, bytes)?;
-    let output = play_port_alone::<B>(alloc, devices)?;
+    let output = play_port_alone::<B>(alloc, &devices)?;
     Ok(output)
 }
 
@@ -144,7 +144,7 @@ fn port<Rt: Threads + Wait + Sync, B: Recorded>(
     ensures { IsReply Port bytes.now result }
 {
     let devices = read_devices(alloc, bytes)?;
-    let output = play_port::<Rt, B, OpenGate>(rt, alloc, devices, &OpenGate)?;
+    let output = play_port::<Rt, B, OpenGate>(rt, alloc, &devices, &OpenGate)?;
     Ok(output)
 }
 

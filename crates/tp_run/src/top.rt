@@ -216,12 +216,13 @@ fn read_output<B: Recorded, S: Source, G: Gate>(
 }
 
 // The same, with threads for a script that is to be played on several, and for devices.
-fn read_output_on_threads<
-    Rt: Threads + Wait + Sync,
-    B: Recorded + Send,
-    S: Source,
-    G: Gate + Sync,
->(rt: &Rt, alloc: Global, command: Command, source: &mut S, gate: &G) -> Result<Output, Status>
+fn read_output_on_threads<Rt: Threads + Wait + Sync, B: Recorded + Send, S: Source, G: Gate + Sync>(
+    rt: &Rt,
+    alloc: Global,
+    command: Command,
+    source: &mut S,
+    gate: &G,
+) -> Result<Output, Status>
     requires { IsPlayable command }
     ensures taken { IsTakenTo command (S.left source.old) (S.left source.new) result }
     ensures unread { reads (Some command) ≡ false → source.new ≡ source.old }
