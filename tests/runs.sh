@@ -134,6 +134,34 @@ thousand() {
 try 'a thousand runs on four threads come to different histories, each of them legal' 0 $'at least two\n' '' thousand
 rm -rf "$room/thousand"
 
+# --- Devices on threads of their own
+# Three devices of 400 operations, each with an error and a number of bytes by which it is known.
+three_devices() { awk 'BEGIN { for (; device < 3; device++) { print "device"; for (each = 1; each <= 400; each++) print "op " each % 3, device * 1000 + each } }'; }
+three_devices >"$room/three.devices"
+"$program" port <"$room/three.devices" >"$room/port"
+try 'port-of-three-devices' 0 $'legal 3607\n' '' on "$room/port" "$program" check
+completions_of() { sed -n "s/ -> .*//; s/^0 c$1 complete-io //p" "$room/port"; }
+listed_for() { three_devices | awk -v device="$1" '/^device/ { at++; next } { number++ } at == device { print number, $2, $3 }'; }
+for device in 1 2 3; do
+    try "device $device of three completes its operations, in its order" 0 "$(listed_for "$device")"$'\n' '' completions_of $((device + 1))
+done
+callbacks_of_c3() { completions_of 3 | cut -d ' ' -f 1; }
+try 'those of c3 are of the callbacks 401 to 800' 0 "$(seq 401 800)"$'\n' '' callbacks_of_c3
+twenty() {
+    local number
+    for number in {1..20}; do
+        "$program" port <"$room/three.devices" >"$room/port-$number" && "$program" check <"$room/port-$number" || return
+    done | uniq -c | awk '{ $1 = $1; print }'
+    (($(cat "$room/port-"* | awk '/^history/ { at++ } { text[at] = text[at] $0 } END { for (; at; at--) if (!seen[text[at]]++) different++; print different }') < 2)) || echo 'at least two'
+}
+try 'twenty runs of them come to different histories, each of them legal' 0 $'20 legal 3607\nat least two\n' '' twenty
+rm "$room/port"*
+devices=$here/examples/three.devices
+port_and() { "$tpool" port "$devices" | "$tpool" "$@"; }
+try 'devices by the script' 0 $'legal 22\n' '' port_and check
+try 'they are shown' 0 $'~ 1  c1   create io r1 x0 p0 normal short g0 q0  made 1\n*\nentries 22\ncallbacks 5\n*' '' port_and show
+try 'their calls are answered so again' 0 $'~made 1\n*\nqueued * 1\nok\nok\nok\n' '' again <("$tpool" port "$devices")
+
 # --- Turns that are drawn
 two_times_drawn() {
     "$program" run --seed 7 <"$server" >"$room/drawn" && "$program" run --threads 1 --seed=7 <"$server" | cmp - "$room/drawn" && "$program" run <"$server" | cmp -s - "$room/drawn"
@@ -183,7 +211,8 @@ try 'big without a number' 1 '' $'~tpool: bad words\ntpool: big wants a number, 
 input=$alone
 try "nothing can be written: run" 4 '' $'tpool: write fault\n' to /dev/full "$tpool" run "$room/alone.script"
 try "nothing can be written: runs" 4 '' $'tpool: write fault\n' to /dev/full "$tpool" runs "$room/alone.script" 2
-for command in run runs; do
+try "nothing can be written: port" 4 '' $'tpool: write fault\n' to /dev/full "$tpool" port "$devices"
+for command in run runs port; do
     try "standard input is closed: $command" 3 '' $'tpool: read fault\n' without_input "$tpool" "$command"
     try "no such file: $command" 3 '' "tpool: read fault: there is no file $room/none"$'\n' "$tpool" "$command" "$room/none"
 done
