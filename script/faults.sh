@@ -76,8 +76,9 @@ find_moment() {
 find_among_devices() {
     local devices operations
     read -r devices operations < <(input_again 2>/dev/null | head -n $(($1 - 1)) | awk '/^device/ { devices++ } /^op / { operations++ } END { print devices + 0, operations + 0 }')
-    case $2:$3 in
-    1:op*) if ((devices == 0)); then echo 'an operation is of the device above it: `device` stands first'; else echo "there are $operations operations above, as many as there may be"; fi ;;
+    case $2:$3:$devices in
+    1:op*:0) echo "an operation is of the device above it: \`device\` stands first" ;;
+    1:op*) echo "there are $operations operations above, as many as there may be" ;;
     1:device*) echo "there are $devices devices above, as many as there may be" ;;
     esac
 }
