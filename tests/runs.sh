@@ -119,20 +119,22 @@ try 'the server on more threads than actors' 0 $'~left 0\nrefused *\nas many ent
 for threads in 1 2 4 16; do
     try "the server's history on $threads threads is legal" 0 '~legal *' '' run_and check --threads "$threads" "$server"
 done
-# A thousand runs on four threads, each legal. How many of them are there?
-thousand() {
-    local number
-    mkdir -p "$room/thousand"
-    for ((number = 0; number < 1000; number++)); do
-        "$program" run --threads 4 <"$server" >"$room/thousand/$number" || return
+# come_to VERDICT RUNS FILE WORD..: whether so many runs of the program on a file come to two histories at least, of which
+# each has a verdict like this.
+come_to() {
+    local verdict=$1 runs=$2 file=$3 number
+    shift 3
+    mkdir -p "$room/runs"
+    for ((number = 0; number < runs; number++)); do
+        "$program" "$@" <"$file" >"$room/runs/$number" || return
     done
-    (cd "$room/thousand" && sha256sum -- * | sort | awk '!seen[$1]++ { print $2 }') >"$room/different"
+    (cd "$room/runs" && sha256sum -- * | sort | awk '!seen[$1]++ { print $2 }') >"$room/different"
     while read -r number; do
-        "$program" check <"$room/thousand/$number" || return
-    done <"$room/different" 2>/dev/null | awk '/^legal / { legal++ } !/^legal / { print } END { print (legal < 2 ? legal + 0 " histories" : "at least two") }'
+        "$program" check <"$room/runs/$number" || return
+    done <"$room/different" 2>/dev/null | awk -v verdict="$verdict" '$0 ~ verdict { legal++; next } { print } END { print (legal < 2 ? legal + 0 " histories" : "at least two") }'
+    rm -r "$room/runs"
 }
-try 'a thousand runs on four threads come to different histories, each of them legal' 0 $'at least two\n' '' thousand
-rm -rf "$room/thousand"
+try 'a thousand runs on four threads come to different histories, each of them legal' 0 $'at least two\n' '' come_to '^legal ' 1000 "$server" run --threads 4
 
 # --- Devices on threads of their own
 # Three devices of 400 operations, each with an error and a number of bytes by which it is known.
@@ -147,15 +149,8 @@ for device in 1 2 3; do
 done
 callbacks_of_c3() { completions_of 3 | cut -d ' ' -f 1; }
 try 'those of c3 are of the callbacks 401 to 800' 0 "$(seq 401 800)"$'\n' '' callbacks_of_c3
-twenty() {
-    local number
-    for number in {1..20}; do
-        "$program" port <"$room/three.devices" >"$room/port-$number" && "$program" check <"$room/port-$number" || return
-    done | uniq -c | awk '{ $1 = $1; print }'
-    (($(cat "$room/port-"* | awk '/^history/ { at++ } { text[at] = text[at] $0 } END { for (; at; at--) if (!seen[text[at]]++) different++; print different }') < 2)) || echo 'at least two'
-}
-try 'twenty runs of them come to different histories, each of them legal' 0 $'20 legal 3607\nat least two\n' '' twenty
-rm "$room/port"*
+try 'three hundred runs of them come to different histories, each of them legal' 0 $'at least two\n' '' come_to '^legal 3607$' 300 "$room/three.devices" port
+rm "$room/port"
 devices=$here/examples/three.devices
 port_and() { "$tpool" port "$devices" | "$tpool" "$@"; }
 try 'devices by the script' 0 $'legal 22\n' '' port_and check
