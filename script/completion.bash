@@ -2,7 +2,7 @@
 # where bash doesn't find it by itself: . script/completion.bash
 # shellcheck shell=bash
 
-_tpool_commands='trace show history check migrate calls-of run runs gen big calls prove install help'
+_tpool_commands='trace show history check migrate calls-of run runs port gen big calls prove install help'
 
 # The options of a command.
 _tpool_options() {

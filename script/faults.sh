@@ -31,15 +31,17 @@ find_cause() {
     [[ -z $cause ]] || return 0
     rest=$(rest_of_line "$line" "$column" 60)
     case $command:$line:$column:$rest in
-    trace:1:1:'history '* | run*:1:1:'history '*) cause='this is a history: ./tpool check reads it' ;;
+    *:1:1:device) cause='these are devices, it seems: ./tpool port reads them' ;;
+    trace:1:1:'history '* | port:1:1:'history '* | run*:1:1:'history '*) cause='this is a history: ./tpool check reads it' ;;
     history:1:1:'history '*) cause='this is a history: ./tpool check reads it, and ./tpool migrate writes it in format 2' ;;
-    run*:1:1:[cw][0-9]*) cause='this is a trace: ./tpool trace plays it' ;;
+    port:1:1:[cw][0-9]* | run*:1:1:[cw][0-9]*) cause='this is a trace: ./tpool trace plays it' ;;
     run*) cause=$(find_in_script "$line" "$column") ;;
     check:1:1:[cw][0-9]*) cause='this is a trace: ./tpool trace reads it, and ./tpool history makes a history of it' ;;
     *:*:*:[#\;]* | *:*:*:\ [#\;]* | *:*:*:'//'* | *:*:*:' //'* | *:*:*:'--'* | *:*:*:' --'*)
         cause='there are no comments, but in scripts, which ./tpool run plays'
         ;;
     *:1:[12]:*) ! is_script || cause='this is a script, it seems: ./tpool run plays it' ;;&
+    port:*) cause=${cause:-$(find_among_devices "$line" "$column" "$rest")} ;;
     check:*:1:[cw0-9]*) cause=${cause:-$(find_moment "$rest")} ;;
     trace:*:*:' -> '*) cause='an answer stands here, as in a history: ./tpool check reads those' ;;
     *) cause=${cause:-$(find_meant "$line" "$column")} ;;
@@ -70,6 +72,17 @@ find_moment() {
     esac
 }
 
+# What is wrong among devices with a line that could stand elsewhere.
+find_among_devices() {
+    local devices operations
+    read -r devices operations < <(input_again 2>/dev/null | head -n $(($1 - 1)) | awk '/^device/ { devices++ } /^op / { operations++ } END { print devices + 0, operations + 0 }')
+    case $2:$3:$devices in
+    1:op*:0) echo "an operation is of the device above it: \`device\` stands first" ;;
+    1:op*) echo "there are $operations operations above, as many as there may be" ;;
+    1:device*) echo "there are $devices devices above, as many as there may be" ;;
+    esac
+}
+
 # Finds what the byte at the fault's place may mean.
 find_byte() {
     local byte before
@@ -87,9 +100,14 @@ from_actor_on() {
         LC_ALL=C awk -v column=$(($2 - moment)) -f "$home/script/headings.awk" "${@:3}" - "$pages" 2>/dev/null
 }
 
-# Finds what the line of the call looks like, and which of its words is missing, if the line ends too early.
+# Finds what the line of the call looks like, and which of its words is missing, if the line ends too early; of devices,
+# what their lines look like.
 find_form() {
     local word what=line
+    if [[ $command == port ]]; then
+        form='device, or op ERROR BYTES'
+        return
+    fi
     {
         read -r word
         IFS= read -r form

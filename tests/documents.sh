@@ -23,8 +23,8 @@
 #   its files are those of `src`, `specs` and `proofs` in which the witness stands;
 # - the table of docs/PROVED.md under 'What you have to believe': its files, and the kit's crates before it, are those
 #   of which the contract of `tp_main` is made;
-# - the tables of docs/PROVED.md that begin with `Clause`, `Field` and `Law`: their rows are the clauses of `tp_main`, and
-#   the fields of `IsPlayed` with `IsRunOf` and of `KeepsLaws`;
+# - the tables of docs/PROVED.md that begin with `Clause`, `Field`, `Of IsPorted` and `Law`: their rows are the clauses of
+#   `tp_main`, and the fields of `IsPlayed` with `IsRunOf`, of `IsPorted` and of `KeepsLaws`;
 # - the table of docs/LIBRARY.md that begins with `Kind`: its methods are those of `src/win32.rt` of shared_pool;
 # - the table of docs/ARCHITECTURE.md under 'Where its meaning stands': a row for each library.
 # shellcheck shell=bash disable=SC2016
@@ -272,6 +272,7 @@ has_fields() {
 }
 try 'docs/PROVED.md has each clause of tp_main' 0 '' '' inside "$here" has_clauses
 try 'docs/PROVED.md has what holds of a run' 0 '' '' inside "$here" has_fields Field crates/tp_run/specs/Played.antt IsPlayed IsRunOf
+try 'docs/PROVED.md has what holds of devices' 0 '' '' inside "$here" has_fields 'Of `IsPorted`' crates/tp_run/specs/Ported.antt IsPorted
 try 'docs/PROVED.md has each law' 0 '' '' inside "$here" has_fields Law crates/tp_model/specs/Laws.antt KeepsLaws
 
 # The methods that docs/LIBRARY.md lists by kind, and those that are there.

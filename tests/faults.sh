@@ -85,10 +85,14 @@ fail_commands() {
     input=
     fail_all 'a generated script' 'memory write short-write' "$program" gen 7
     fail_all 'bad words' 'memory write short-write' "$program" gen 07
+    input=$'device\nop 0 512\nop 5 0\n'
+    fail_all 'a device' "memory $streams thread" "$program" port
     # It makes so many calls that of those behind the twentieth only some fail.
     sparse=20 fail_all 'a long run' 'memory write short-write' "$program" big 7
     input=$'work w r\nroutine r\ndone\nclient\ntimes 4 submit w\nwait w keep\ndone\n'
     same=is_legal_run fail_all 'threads' "memory $streams thread" "$program" run --threads 4 --workers 3 --events 256
+    input=$(<"$here/examples/three.devices")$'\n'
+    same=is_legal_run fail_all 'devices' "memory $streams thread" "$program" port
 }
 
 input=

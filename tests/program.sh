@@ -8,7 +8,7 @@ for words in '' 'foo' 'trac' 'traced' 'tra ce' 'trace trace' 'Trace' ''$'\xff' '
     'trace --workers' 'trace --workers=' 'trace --workers 0' 'trace --workers 65' 'trace --workers 04' 'trace --workers -4' \
     'trace --workers -- 4' 'trace --worker 4' 'trace --workers 4 --workers=4' 'trace --threads 17' 'gen 7 --threads=0' \
     'run --seed' 'run --seed -1' 'run --seed 07' 'run --seed 18446744073709551616' 'run --seed 1 --seed=1' 'run --seed 1 --threads 2' \
-    'trace --seed 1' 'check --seed 1' 'gen 7 --seed 1' 'big 7 --seed=1' '--seed 1' \
+    'trace --seed 1' 'check --seed 1' 'port --seed 1' 'port 7' 'gen 7 --seed 1' 'big 7 --seed=1' '--seed 1' \
     'trace --events 15' 'trace --events=131073' 'trace --json --json' 'trace --json=1' '-- --json trace' 'trace -- --'; do
     # shellcheck disable=SC2086
     try "bad words: '$words'" 1 '' $'tpool: bad words\n' "$program" $words
@@ -272,6 +272,43 @@ try 'a history that is migrated twice' 0 $'legal 9\n' '' migrate_twice
 input=$'history 1 clients 0 workers 1 events 16\nend 0\nand more'
 try 'what stands behind the end line is ignored' 0 $'legal 0\n' '' "$program" check
 
+# --- Devices that complete operations
+input=$'device\nop 0 512\nop 5 0\n'
+try 'port-of-one-device' 0 'history 2 clients 2 workers 4 events 65536 objects 65535
+0 c1 create io r1 x0 p0 normal short g0 q0 -> made 1
+0 c1 start-io 1 -> started 1
+0 c1 issue-io 1 -> operation 1
+0 c1 start-io 1 -> started 2
+0 c1 issue-io 1 -> operation 2
+0 c1 finish -> ok
+0 c2 complete-io 1 0 512 -> queued 1 1
+0 c2 complete-io 2 5 0 -> queued 2 1
+0 c2 finish -> ok
+end 9
+entries 9
+callbacks 2
+taken 0
+cancelled 0
+left 2
+left-callback 1 o1 pending
+left-callback 2 o1 pending
+refused 0
+' '' "$program" port
+try 'options change nothing of it' 0 "$("$program" port <"$room/input")"$'\n' '' "$program" --workers 1 port --json --events=16 --threads 2
+for input in $'device\n' $'device\nop 4294967295 18446744073709551615\ndevice\n'; do
+    try "devices: $(printf %q "$input")" 0 '~history 2 *' '' "$program" port
+done
+input=
+try 'no device' 0 $'history 2 clients 1 workers 4 events 65536 objects 65535\n0 c1 finish -> ok\nend 1\nentries 1\ncallbacks 0\ntaken 0\ncancelled 0\nleft 0\nrefused 0\n' '' "$program" port
+# most_devices LINE: fifteen devices with all the operations that there may be, and one more line; what is told of that.
+most_devices() {
+    { yes device | head -n 15 && yes 'op 7 9' | head -n 8192 && printf '%s' "$1"; } | "$program" port | grep -E '^(end|left) '
+}
+try 'as many devices and operations as there may be' 0 $'end 24607\nleft 8192\n' '' most_devices ''
+for line in device 'op 7 9'; do
+    try "one more: $line" 1 '' $'tpool: bad line 8208 column 1\n' most_devices "$line"$'\n'
+done
+
 # fault COMMAND LINE COLUMN INPUT: where an input is no more of the command's grammar.
 fault() {
     input=$4
@@ -313,5 +350,14 @@ fault check 3 1 "$timed_line"$'\n0 c1 finish -> ok\nc1 finish -> ok\n'
 fault check 3 3 "$timed_line"$'\n0 c1 finish -> ok\n0  c1 finish -> ok\n'
 fault check 2 16 "$first_line"$'\nc1 finish -> ok \n'
 fault check 3 19 "$first_line"$'\nc1 '"$create"$'\nc1 submit 1 -> que'
+fault port 1 1 $'op 0 1\n'
+fault port 1 7 'device'
+fault port 2 1 $'device\n\n'
+fault port 2 2 $'device\no\n'
+fault port 2 13 $'device\nop 4294967296 1\n'
+fault port 2 25 $'device\nop 0 18446744073709551616\n'
+fault port 2 7 $'device\nop 0 1 \n'
+fault port 3 5 $'device\nop 0 1\nop 00 1\n'
+fault port 3 1 $'device\ndevice\nend\n'
 # A fault further down comes before an entry with a wrong answer.
 fault check 3 5 "$first_line"$'\nc1 finish -> ended\nend 2\n'

@@ -119,20 +119,43 @@ try 'the server on more threads than actors' 0 $'~left 0\nrefused *\nas many ent
 for threads in 1 2 4 16; do
     try "the server's history on $threads threads is legal" 0 '~legal *' '' run_and check --threads "$threads" "$server"
 done
-# A thousand runs on four threads, each legal. How many of them are there?
-thousand() {
-    local number
-    mkdir -p "$room/thousand"
-    for ((number = 0; number < 1000; number++)); do
-        "$program" run --threads 4 <"$server" >"$room/thousand/$number" || return
+# come_to VERDICT RUNS FILE WORD..: whether so many runs of the program on a file come to two histories at least, of which
+# each has a verdict like this.
+come_to() {
+    local verdict=$1 runs=$2 file=$3 number
+    shift 3
+    mkdir -p "$room/runs"
+    for ((number = 0; number < runs; number++)); do
+        "$program" "$@" <"$file" >"$room/runs/$number" || return
     done
-    (cd "$room/thousand" && sha256sum -- * | sort | awk '!seen[$1]++ { print $2 }') >"$room/different"
+    (cd "$room/runs" && sha256sum -- * | sort | awk '!seen[$1]++ { print $2 }') >"$room/different"
     while read -r number; do
-        "$program" check <"$room/thousand/$number" || return
-    done <"$room/different" 2>/dev/null | awk '/^legal / { legal++ } !/^legal / { print } END { print (legal < 2 ? legal + 0 " histories" : "at least two") }'
+        "$program" check <"$room/runs/$number" || return
+    done <"$room/different" 2>/dev/null | awk -v verdict="$verdict" '$0 ~ verdict { legal++; next } { print } END { print (legal < 2 ? legal + 0 " histories" : "at least two") }'
+    rm -r "$room/runs"
 }
-try 'a thousand runs on four threads come to different histories, each of them legal' 0 $'at least two\n' '' thousand
-rm -rf "$room/thousand"
+try 'a thousand runs on four threads come to different histories, each of them legal' 0 $'at least two\n' '' come_to '^legal ' 1000 "$server" run --threads 4
+
+# --- Devices on threads of their own
+# Three devices of 400 operations, each with an error and a number of bytes by which it is known.
+three_devices() { awk 'BEGIN { for (; device < 3; device++) { print "device"; for (each = 1; each <= 400; each++) print "op " each % 3, device * 1000 + each } }'; }
+three_devices >"$room/three.devices"
+"$program" port <"$room/three.devices" >"$room/port"
+try 'port-of-three-devices' 0 $'legal 3607\n' '' on "$room/port" "$program" check
+completions_of() { sed -n "s/ -> .*//; s/^0 c$1 complete-io //p" "$room/port"; }
+listed_for() { three_devices | awk -v device="$1" '/^device/ { at++; next } { number++ } at == device { print number, $2, $3 }'; }
+for device in 1 2 3; do
+    try "device $device of three completes its operations, in its order" 0 "$(listed_for "$device")"$'\n' '' completions_of $((device + 1))
+done
+callbacks_of_c3() { completions_of 3 | cut -d ' ' -f 1; }
+try 'those of c3 are of the callbacks 401 to 800' 0 "$(seq 401 800)"$'\n' '' callbacks_of_c3
+try 'three hundred runs of them come to different histories, each of them legal' 0 $'at least two\n' '' come_to '^legal 3607$' 300 "$room/three.devices" port
+rm "$room/port"
+devices=$here/examples/three.devices
+port_and() { "$tpool" port "$devices" | "$tpool" "$@"; }
+try 'devices by the script' 0 $'legal 22\n' '' port_and check
+try 'they are shown' 0 $'~ 1  c1   create io r1 x0 p0 normal short g0 q0  made 1\n*\nentries 22\ncallbacks 5\n*' '' port_and show
+try 'their calls are answered so again' 0 $'~made 1\n*\nqueued * 1\nok\nok\nok\n' '' again <("$tpool" port "$devices")
 
 # --- Turns that are drawn
 two_times_drawn() {
@@ -183,7 +206,8 @@ try 'big without a number' 1 '' $'~tpool: bad words\ntpool: big wants a number, 
 input=$alone
 try "nothing can be written: run" 4 '' $'tpool: write fault\n' to /dev/full "$tpool" run "$room/alone.script"
 try "nothing can be written: runs" 4 '' $'tpool: write fault\n' to /dev/full "$tpool" runs "$room/alone.script" 2
-for command in run runs; do
+try "nothing can be written: port" 4 '' $'tpool: write fault\n' to /dev/full "$tpool" port "$devices"
+for command in run runs port; do
     try "standard input is closed: $command" 3 '' $'tpool: read fault\n' without_input "$tpool" "$command"
     try "no such file: $command" 3 '' "tpool: read fault: there is no file $room/none"$'\n' "$tpool" "$command" "$room/none"
 done

@@ -168,6 +168,16 @@ shows check 2 10 "$end"$'c1 createEventA auto clear -> made 1\nend 1\n' 'CreateE
 shows trace 1 4 $'c1 SetThreadpoolCallbackPool 1\n' 'SetThreadpoolCallbackPool has no line of its own: ./tpool calls SetThreadpoolCallbackPool'
 shows trace 1 1 $'submit 1\n' 'a line begins with an actor, as c1 or w1'
 forms trace 1 10 $'c1 finish now\n' 'no good line goes on like this' finish
+shows port 1 1 $'op 0 1\n' 'an operation is of the device above it: `device` stands first'
+shows port 16 1 "$(yes device | head -n 16)"$'\n' 'there are 15 devices above, as many as there may be'
+shows port 8194 1 $'device\n'"$(yes 'op 0 1' | head -n 8193)"$'\n' 'there are 8192 operations above, as many as there may be'
+forms port 2 5 $'device\nop 0\n' 'the line ends here, and something is missing' 'device, or op ERROR BYTES'
+shows port 1 1 $'work w r\n' 'this is a script, it seems: ./tpool run plays it'
+shows port 1 1 $'c1 start-io 1\n' 'this is a trace: ./tpool trace plays it'
+shows port 1 1 "$end" 'this is a history: ./tpool check reads it'
+for command in trace check run; do
+    shows "$command" 1 1 $'device\nop 0 1\n' 'these are devices, it seems: ./tpool port reads them'
+done
 # A mark in front of all, and CR LF, are told before anything else.
 shows trace 1 6 $'c1 sumbit 1\r\n' 'a carriage return: lines end in LF alone, and not in CR LF'
 shows run 1 1 $'done\r\n' 'a carriage return: lines end in LF alone, and not in CR LF'
