@@ -1,5 +1,5 @@
 -- Completions that were taken, each made on the machine.
-use Rattle.std.proofs.Common.{◌≡◌, ℕ, zero, suc, ◌<◌, Bool, true, false, cond, List, [], ◌∷◌, ◌++◌, length, map, get_or, refl, sym, ap, ap₂, ◌∙◌, append_assoc, arith}
+use Rattle.std.proofs.Common.{◌≡◌, ℕ, zero, suc, ◌<◌, true, false, cond, List, [], ◌∷◌, ◌++◌, length, map, get_or, refl, sym, ap, ap₂, ◌∙◌, append_assoc, arith}
 use Rattle.std.specs.Prelude.{if◌then◌else◌, nat_eq}
 use Rattle.std.specs.List.{filter}
 use Rattle.std.specs.Global.{Vec}
@@ -20,7 +20,7 @@ use Rattle.port_facts.specs.Interleaved.{of as of_device}
 use Rattle.tp_port.specs.Devices.{AreEnded}
 use Rattle.tp_port.specs.Lists.{of, posted_at}
 use Rattle.tp_port.specs.Completing.{call_of}
-use Rattle.tp_port.specs.Ports.{posted_by, posted_last, taken_by, taken_last, HasTaken, HasTakenLast, IsGathered, IsSameLast}
+use Rattle.tp_port.specs.Ports.{posted_by, posted_last, taken_by, taken_last, HasTaken, HasTakenLast, IsGathered}
 use Rattle.tp_port.specs.Pumps.{lists_of, HasDrained, HasTakenLeft, HasTakenSome, IsPumped}
 
 pub made_more : (r : Recording) (taken : List Posted) (x : Posted) → all_made r (map call_of (taken ++ x ∷ [])) ≡ made (all_made r (map call_of taken)) (call_of x)

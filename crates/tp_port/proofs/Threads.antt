@@ -1,8 +1,8 @@
 -- Devices post their lists, each in a thread of its own.
-use Rattle.std.proofs.Common.{◌≡◌, ℕ, zero, suc, ◌+◌, ◌<◌, ◌≤◌, List, [], ◌∷◌, ◌++◌, length, get_or, take, refl, sym, ap, ◌∙◌, subst, arith, length-append, append_assoc}
+use Rattle.std.proofs.Common.{◌≡◌, ℕ, ◌+◌, ◌<◌, List, [], ◌∷◌, ◌++◌, length, get_or, take, refl, sym, ap, ◌∙◌, subst, arith, length-append, append_assoc}
 use Rattle.std.proofs.Math.ListN.{get_or-append}
 use Rattle.std.proofs.Math.Seq.{get_or-append_seam}
-use Rattle.std.proofs.lemmas.List.{append-nil, get_or_default, nil_from_length}
+use Rattle.std.proofs.lemmas.List.{get_or_default}
 use mathlib.Core.Logic.{dite}
 use native.Mathlib.Decide.{ℕ_discrete}
 use Rattle.std.specs.Global.{Vec}
@@ -12,7 +12,7 @@ use Rattle.tp_port.specs.declared.passes.TakePass.{TakePass}
 use Rattle.tp_port.specs.declared.port.Port.{Port}
 use Rattle.port_facts.specs.declared.Completion.{Completion}
 use Rattle.tp_port.specs.Devices.{AreEnded, AreFinished, AreReady, AreStarted, Finishes, HasPostedAll, IsReady, IsStarted}
-use Rattle.tp_port.specs.Ports.{posted_by, quota, number_of, quotas_of, AreBack, HasPosted, IsPostAt}
+use Rattle.tp_port.specs.Ports.{posted_by, quota, number_of, quotas_of, AreBack, IsPostAt}
 
 -- ---- a device posts
 

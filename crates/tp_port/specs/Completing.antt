@@ -1,5 +1,4 @@
 -- Completions as calls on a machine.
-use Rattle.std.specs.Prelude.{List, map}
 use Rattle.port_facts.specs.Accepted.{call_of as entry_call}
 use Rattle.port_facts.specs.Completions.{completion_of}
 use Rattle.port_facts.specs.declared.Posted.{Posted}

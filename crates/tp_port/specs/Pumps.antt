@@ -1,5 +1,5 @@
 -- What contracts say of the pump.
-use Rattle.std.specs.Prelude.{◌≡◌, ℕ, ◌+◌, ◌<◌, ◌≤◌, List, [], ◌∷◌, ◌++◌, length, map, All, vec_items, vec_capacity}
+use Rattle.std.specs.Prelude.{◌≡◌, ℕ, ◌≤◌, List, [], ◌++◌, length, map, vec_items, vec_capacity}
 use Rattle.std.specs.Global.{Vec}
 use Rattle.recorded.specs.Recordings.{Recording}
 use Rattle.tp_port.specs.declared.passes.LastPass.{LastPass}

@@ -1,4 +1,3 @@
-use Rattle.std.proofs.Common.{take}
 use Rattle.tp_port.specs.Ports.{number_of}
 use Rattle.tp_port.proofs.Threads.{Posting}
 use Rattle.tp_port.proofs.devices.post_all.Given as goal

@@ -1,4 +1,4 @@
-use Rattle.std.proofs.Common.{ℕ, List, length, ap, ◌∙◌, sym, map}
+use Rattle.std.proofs.Common.{ap, ◌∙◌, sym, map}
 use Rattle.std.proofs.lemmas.List.{length-map}
 use Rattle.std.specs.Global.{Vec}
 use Rattle.port_facts.specs.Accepted.{call_of}

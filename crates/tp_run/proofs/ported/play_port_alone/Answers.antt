@@ -1,10 +1,9 @@
-use Rattle.std.proofs.Common.{◌≡◌, ℕ, List, length, map, ap, ◌∙◌, sym, arith}
+use Rattle.std.proofs.Common.{◌≡◌, List, length, map, ap, ◌∙◌, arith}
 use Rattle.std.proofs.lemmas.List.{length-map}
 use Rattle.std.specs.Global.{Vec}
 use Rattle.port_calls.specs.PortCalls.{completions_in, in_turn, numbered, objects_of}
 use Rattle.port_facts.specs.Accepted.{call_of}
 use Rattle.port_facts.specs.Completions.{completions}
-use Rattle.port_facts.specs.Interleaved.{listed}
 use Rattle.port_facts.specs.declared.Completion.{Completion}
 use Rattle.port_facts.specs.declared.Posted.{Posted}
 use Rattle.port_lines.specs.Texts.{lists_of}

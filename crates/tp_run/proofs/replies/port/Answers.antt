@@ -1,4 +1,4 @@
-use Rattle.tp_run.proofs.Devices.{port_of_fault, port_output}
+use Rattle.tp_run.proofs.Devices.{port_of_fault}
 use Rattle.tp_run.proofs.replies.port.Goals as goal
 
 pub returns-in_err-devices : goal.returns-in_err-devices
