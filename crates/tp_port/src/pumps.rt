@@ -95,7 +95,6 @@ fn take_some<B: Recorded, Rt: Wait>(
             if EMPTY_MOST <= empty {
                 break;
             }
-            thread::yield_now();
         }
     }
     (book, pass)
