@@ -8,6 +8,8 @@ mod actors;
 #[cfg(test)]
 mod books;
 #[cfg(test)]
+mod devices;
+#[cfg(test)]
 mod expect;
 #[cfg(test)]
 mod kept;
