@@ -1,12 +1,13 @@
 -- What the program makes of devices.
-use Rattle.std.proofs.Common.{◌≡◌, ℕ, ◌+◌, ◌≤◌, List, [], ◌++◌, length, Result, Ok, Err, refl, sym, ap, ◌∙◌, subst, arith, append_assoc}
-use Rattle.std.specs.Prelude.{false, map}
+use Rattle.std.proofs.Common.{◌∷◌, ◌≡◌, ℕ, ◌+◌, ◌≤◌, List, [], ◌++◌, length, Result, Ok, Err, refl, sym, ap, ◌∙◌, subst, arith, append_assoc, ap₂, ⊎_elim, eqb-true, zero, suc, ◌==◌, true, false, Bool, ◌⊎◌, inl, inr}
+use Rattle.std.specs.Prelude.{map}
+use Rattle.std.proofs.lemmas.Bool.Decides.{nat_tests}
 use Rattle.std.specs.Result.{IsErrAnd}
 use Rattle.std.specs.Global.{Vec}
 use Rattle.port_calls.specs.PortCalls.{numbered, objects_of}
 use Rattle.port_facts.specs.Accepted.{all_made, call_of, with_entries, AreAccepted}
 use Rattle.port_facts.specs.Completions.{completions, HaveCompleted}
-use Rattle.port_facts.specs.Interleaved.{listed, port_history, AreInOrder, AreListed, IsInterleaving}
+use Rattle.port_facts.specs.Interleaved.{listed, port_history, AreInOrder, AreListed, IsInterleaving, list_of, of}
 use Rattle.port_facts.specs.SetUp.{behind_set_up, finishes, no_history, set_up, IsPort, IsSetUp}
 use Rattle.port_facts.specs.declared.Completion.{Completion}
 use Rattle.port_facts.specs.declared.Posted.{Posted}
@@ -25,10 +26,11 @@ use Rattle.tp_model.specs.History.{IsLegal}
 use Rattle.tp_model.specs.Laws.{KeepsLaws}
 use Rattle.tp_report.specs.Histories.{history_told}
 use Rattle.tp_run.specs.Ends.{status_of_port, IsOutput, IsReply}
-use Rattle.tp_run.specs.Played.{totals_text}
+use Rattle.tp_run.specs.Played.{printed, totals_text}
 use Rattle.tp_run.specs.Ported.{behind_posted, history_of, limits_of, IsPorted}
 use Rattle.tp_run.specs.declared.command.Command.TheVariants.{Port}
 use Rattle.tp_run.specs.declared.replies.Output.{Output}
+use Rattle.tp_run.specs.declared.status.Ending.{Ending}
 use Rattle.tp_run.specs.declared.status.Ending.TheVariants.{Fine}
 use Rattle.tp_run.specs.declared.status.Status.{Status}
 
@@ -115,3 +117,58 @@ pub completed : (devices : List (List Operation)) (posted : List Posted) (r new 
     → calls ≡ map call_of (completions posted) → new ≡ all_made r calls → HaveCompleted r posted → new ≡ behind_posted devices posted
 completed devices posted r new calls is calls_are new_is have =
     new_is ∙ ap (λ cs. all_made r cs) calls_are ∙ have.accepted.made ∙ ap (λ q. with_entries q (completions posted)) is
+
+-- ---- one device at most
+
+true_or_false : (b : Bool) → (b ≡ true) ⊎ (b ≡ false)
+true_or_false true = inl refl
+true_or_false false = inr refl
+
+abbrev first_posted : Completion → Posted
+first_posted c = record { device = 1; completion = c }
+
+-- what is posted of a device
+here : (d : ℕ) (x : Posted) (xs : List Posted) → (x.device == d) ≡ true → of d (x ∷ xs) ≡ x.completion ∷ of d xs
+here d x xs is = rw is refl
+
+elsewhere : (d : ℕ) (x : Posted) (xs : List Posted) → (x.device == d) ≡ false → of d (x ∷ xs) ≡ of d xs
+elsewhere d x xs is = rw is refl
+
+same_device : (d : ℕ) → (d == d) ≡ true
+same_device d = grind (arith, nat_tests)
+
+-- where no other device posts, all is the first one's
+all_first : (posted : List Posted) → ((d : ℕ) → (d == 1) ≡ false → of d posted ≡ []) → posted ≡ map first_posted (of 1 posted)
+all_first [] none = refl
+all_first (x ∷ xs) none =
+    ⊎_elim
+    (λ (is : (x.device == 1) ≡ true).
+    let one : x.device ≡ 1 = eqb-true x.device 1 is in
+    let rest : xs ≡ map first_posted (of 1 xs) = all_first xs (λ d apart. sym (elsewhere d x xs (subst (λ n. (n == d) ≡ false) (sym one) (turned d apart))) ∙ none d apart) in
+    let head : x ≡ first_posted x.completion = λ i. record { device = one i; completion = x.completion } in
+    ap₂ (λ (y : Posted) (ys : List Posted). y ∷ ys) head rest ∙ ap (λ (cs : List Completion). map first_posted cs) (sym (here 1 x xs is)))
+    (λ (apart : (x.device == 1) ≡ false). let wrong : x.completion ∷ of x.device xs ≡ [] = sym (here x.device x xs (same_device x.device)) ∙ none x.device apart in absurd cc)
+    (true_or_false (x.device == 1))
+  where
+    turned : (d : ℕ) → (d == 1) ≡ false → (1 == d) ≡ false
+    turned d apart = grind (arith, nat_tests, apart)
+
+-- with one list at most nothing is posted of another device than the first
+only_first : (lists : List (List Completion)) → length lists ≤ 1 → (d : ℕ) → (d == 1) ≡ false → list_of lists d ≡ []
+only_first [] few zero apart = refl
+only_first [] few (suc d) apart = refl
+only_first (list ∷ []) few zero apart = refl
+only_first (list ∷ []) few (suc zero) apart = absurd cc
+only_first (list ∷ []) few (suc (suc d)) apart = refl
+only_first (list ∷ other ∷ lists) few d apart = absurd (omega (arith, few))
+
+one_order : (lists : List (List Completion)) (p q : List Posted) → length lists ≤ 1 → IsInterleaving lists p → IsInterleaving lists q → p ≡ q
+one_order lists p q few a b =
+    all_first p (λ d apart. a d ∙ only_first lists few d apart)
+    ∙ ap (λ (cs : List Completion). map first_posted cs) (a 1 ∙ sym (b 1))
+    ∙ sym (all_first q (λ d apart. b d ∙ only_first lists few d apart))
+
+pub one_output : (devices : List (List Operation)) (a b : List ℕ) (ends other_ends : Ending) → length (numbered devices) ≡ length devices → length devices ≤ 1 → IsPorted devices a ends → IsPorted devices b other_ends → (a ≡ b) × (ends ≡ other_ends)
+one_output devices a b ends other_ends count few p q =
+    let same : p.posted ≡ q.posted = one_order (numbered devices) p.posted q.posted (omega (arith, count, few)) p.each q.each in
+    (p.output_is ∙ ap (λ posted. printed (record { history = true; json = false }) (limits_of devices) 65536 (history_of devices posted)) same ∙ sym q.output_is, p.ends ∙ sym q.ends)

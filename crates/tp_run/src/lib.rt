@@ -22,7 +22,7 @@ mod replies;
 mod status;
 mod top;
 
-pub use ported::play_port;
+pub use ported::{one_device_writes_one_output, play_port};
 pub use replies::Output;
 pub use status::{Ending, Status};
 pub use top::{tp_main, tp_main_alone};

@@ -1,12 +1,13 @@
 //! Devices that complete their operations, and what is written of that.
 
-ghost use Rattle.std.specs.Prelude.{◌≡◌, ◌+◌, ◌≤◌, ◌++◌, List, length, IfOk};
+ghost use Rattle.std.specs.Prelude.{◌≡◌, ℕ, ◌≤◌, List, length, IfOk};
 ghost use Rattle.port_calls.specs.PortCalls.{numbered, objects_of};
 ghost use Rattle.port_facts.specs.Interleaved.{IsInterleaving};
 ghost use Rattle.port_facts.specs.SetUp.{behind_set_up};
 ghost use Rattle.port_facts.specs.declared.Posted.{Posted as Post};
 ghost use Rattle.port_lines.specs.Texts.{lists_of, AreDevices};
 ghost use Rattle.port_lines.specs.declared.lines.Operation.{Operation as DeviceOperation};
+ghost use Rattle.tp_run.specs.declared.status.Ending.{Ending as End};
 ghost use Rattle.tp_run.specs.Ported.{behind_posted, limits_of, IsPorted};
 
 use crate::played::append_totals;
@@ -109,4 +110,11 @@ fn finish<B: Recorded>(
     append_totals(alloc, false, &counted, &mut text)?;
     let ending = Ending::Fine;
     Ok(Output { text, ending })
+}
+
+/// Of one device at most there is one output, whatever the threads do: the order of the text is the only one.
+pub fn one_device_writes_one_output()
+    ensures { (devices : List (List DeviceOperation)) (a b : List ℕ) (ends other_ends : End) → length devices ≤ 1 → IsPorted devices a ends → IsPorted devices b other_ends → (a ≡ b) × (ends ≡ other_ends) }
+{
+    port_text_fits();
 }
