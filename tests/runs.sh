@@ -137,19 +137,21 @@ come_to() {
 try 'a thousand runs on four threads come to different histories, each of them legal' 0 $'at least two\n' '' come_to '^legal ' 1000 "$server" run --threads 4
 
 # --- Devices on threads of their own
-# Three devices of 400 operations, each with an error and a number of bytes by which it is known.
-three_devices() { awk 'BEGIN { for (; device < 3; device++) { print "device"; for (each = 1; each <= 400; each++) print "op " each % 3, device * 1000 + each } }'; }
+# Three devices with nearly all operations that there may be, each with an error and a number of bytes by which it is
+# known. So many are needed for threads that come to different histories: with some hundred, one device is done before
+# the next one has begun.
+three_devices() { awk 'BEGIN { for (; device < 3; device++) { print "device"; for (each = 1; each <= 2730; each++) print "op " each % 3, device * 10000 + each } }'; }
 three_devices >"$room/three.devices"
 "$program" port <"$room/three.devices" >"$room/port"
-try 'port-of-three-devices' 0 $'legal 3607\n' '' on "$room/port" "$program" check
+try 'port-of-three-devices' 0 $'legal 24577\n' '' on "$room/port" "$program" check
 completions_of() { sed -n "s/ -> .*//; s/^0 c$1 complete-io //p" "$room/port"; }
 listed_for() { three_devices | awk -v device="$1" '/^device/ { at++; next } { number++ } at == device { print number, $2, $3 }'; }
 for device in 1 2 3; do
     try "device $device of three completes its operations, in its order" 0 "$(listed_for "$device")"$'\n' '' completions_of $((device + 1))
 done
 callbacks_of_c3() { completions_of 3 | cut -d ' ' -f 1; }
-try 'those of c3 are of the callbacks 401 to 800' 0 "$(seq 401 800)"$'\n' '' callbacks_of_c3
-try 'three hundred runs of them come to different histories, each of them legal' 0 $'at least two\n' '' come_to '^legal 3607$' 300 "$room/three.devices" port
+try 'those of c3 are of the callbacks 2731 to 5460' 0 "$(seq 2731 5460)"$'\n' '' callbacks_of_c3
+try 'a hundred runs of them come to different histories, each of them legal' 0 $'at least two\n' '' come_to '^legal 24577$' 100 "$room/three.devices" port
 rm "$room/port"
 devices=$here/examples/three.devices
 port_and() { "$tpool" port "$devices" | "$tpool" "$@"; }
