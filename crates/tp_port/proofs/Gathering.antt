@@ -18,7 +18,8 @@ use Rattle.port_facts.specs.declared.Completion.{Completion}
 use Rattle.tp_port.specs.declared.views.Part.{Part}
 use Rattle.tp_port.specs.declared.views.Part.TheVariants.{Spent, Posts, Takes}
 use Rattle.port_facts.specs.declared.Posted.{Posted}
-use Rattle.tp_port.specs.Lists.{of, posted_at, quota_of}
+use Rattle.tp_port.specs.Lists.{quota_of}
+use Rattle.port_facts.specs.Interleaved.{list_of, of}
 use Rattle.tp_port.specs.Parts.{gathered, known_in, quotas_in, spent_part, taken_in, with_taken}
 use Rattle.tp_port.specs.Ports.{posted_by, posted_last, quotas_of, taken_by, AreBack, IsGathered, IsPostAt}
 use Rattle.tp_port.specs.Rule.{AreBegun, AreKnown, Delivers, Fits, FitsPost, FitsTake, Ledger}
@@ -83,14 +84,14 @@ module _ (pass : ℕ) (q : List ℕ) (m : ℕ) (t : List Posted) (k : List (List
   -- ---- when all came back
 
   module _ (all : length q ≤ length k) where
-    pub knows : Learns Delivers pass (Takes q m t k) (λ items. (device : ℕ) → of device (t ++ items) ≡ posted_at k device)
+    pub knows : Learns Delivers pass (Takes q m t k) (λ items. (device : ℕ) → of device (t ++ items) ≡ list_of k device)
     knows items views h at device =
         let l = h.ledger in
         let f : FitsTake l pass q m t k = h.each pass (Takes q m t k) at in
         let order : of device (t ++ items) ≡ l.posted device = ap (λ (s : List Posted). of device (s ++ items)) f.taken_is ∙ h.order device in
         order ∙ posted_is l f h.within device
       where
-        posted_is : (l : Ledger) → FitsTake l pass q m t k → ((e : ℕ) → length (l.posted e) ≤ quota_of l.quotas e) → (e : ℕ) → l.posted e ≡ posted_at k e
+        posted_is : (l : Ledger) → FitsTake l pass q m t k → ((e : ℕ) → length (l.posted e) ≤ quota_of l.quotas e) → (e : ℕ) → l.posted e ≡ list_of k e
         posted_is l f within zero = nil_from_length (l.posted 0) (omega (arith, within 0))
         posted_is l f within (suc e) =
             dite (dec_le (length k) e)

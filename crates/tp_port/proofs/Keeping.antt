@@ -11,7 +11,8 @@ use Rattle.port_facts.specs.declared.Completion.{Completion}
 use Rattle.tp_port.specs.declared.views.Part.{Part}
 use Rattle.tp_port.specs.declared.views.Part.TheVariants.{Spent, Posts, Takes}
 use Rattle.port_facts.specs.declared.Posted.{Posted}
-use Rattle.tp_port.specs.Lists.{of, quota_of}
+use Rattle.tp_port.specs.Lists.{quota_of}
+use Rattle.port_facts.specs.Interleaved.{of}
 use Rattle.tp_port.specs.Parts.{begun, dealt, undealt, opening_part, quotas_in, room_in, spent_part, with_put, with_taken}
 use Rattle.tp_port.specs.Rule.{Delivers, Fits, FitsPost, FitsTake, Ledger}
 use Rattle.tp_port.proofs.Lists.{changed, changed_here, changed_else, fits_room, of_append, of_one, of_other, quota_none, sum_cons}

@@ -1,12 +1,13 @@
 -- Lists of completions by device, and functions of a number that are changed in one place.
-use Rattle.std.proofs.Common.{◌≡◌, ◌≢◌, ℕ, zero, suc, ◌+◌, ◌-◌, ◌<◌, ◌≤◌, Bool, List, [], ◌∷◌, ◌++◌, if◌then◌else◌, length, get_or, sum, refl, sym, ap, ◌∙◌, subst, eq-eqb, ne_eqb, arith}
+use Rattle.std.proofs.Common.{◌≡◌, ◌≢◌, ℕ, zero, suc, ◌+◌, ◌-◌, ◌<◌, ◌≤◌, Bool, cond, filter, List, [], ◌∷◌, ◌++◌, if◌then◌else◌, length, map, get_or, sum, refl, sym, ap, ◌∙◌, subst, eq-eqb, ne_eqb, arith}
 use Rattle.std.proofs.lemmas.List.Sums.{sum_by-cons}
 use mathlib.Core.Logic.{dite}
 use native.Mathlib.Decide.{ℕ_discrete}
 use Rattle.std.specs.Prelude.{nat_eq}
 use Rattle.port_facts.specs.declared.Completion.{Completion}
 use Rattle.port_facts.specs.declared.Posted.{Posted}
-use Rattle.tp_port.specs.Lists.{of, quota_of}
+use Rattle.tp_port.specs.Lists.{quota_of}
+use Rattle.port_facts.specs.Interleaved.{of}
 
 -- ---- a function that has another value in one place
 
@@ -25,11 +26,17 @@ module _ {A : Type 0} (f : ℕ → A) (n : ℕ) (a : A) (m : ℕ) where
 
 -- ---- the completions of one device
 
+abbrev completion_in : Posted → Completion
+completion_in x = x.completion
+
+abbrev is_of : ℕ → Posted → Bool
+is_of device x = nat_eq x.device device
+
 pub of_one : (device : ℕ) (x : Posted) (posted : List Posted) → x.device ≡ device → of device (x ∷ posted) ≡ x.completion ∷ of device posted
-of_one device x posted same = ap (λ (b : Bool). if b then x.completion ∷ of device posted else of device posted) (eq-eqb x.device device same)
+of_one device x posted same = ap (λ (b : Bool). map completion_in (cond b (x ∷ filter (is_of device) posted) (filter (is_of device) posted))) (eq-eqb x.device device same)
 
 pub of_other : (device : ℕ) (x : Posted) (posted : List Posted) → x.device ≢ device → of device (x ∷ posted) ≡ of device posted
-of_other device x posted apart = ap (λ (b : Bool). if b then x.completion ∷ of device posted else of device posted) (ne_eqb x.device device apart)
+of_other device x posted apart = ap (λ (b : Bool). map completion_in (cond b (x ∷ filter (is_of device) posted) (filter (is_of device) posted))) (ne_eqb x.device device apart)
 
 pub of_append : (device : ℕ) (posted more : List Posted) → of device (posted ++ more) ≡ of device posted ++ of device more
 of_append device [] more = refl

@@ -6,21 +6,22 @@ use Rattle.tp_port.specs.declared.passes.PostPass.{PostPass}
 use Rattle.tp_port.specs.declared.port.Port.{Port}
 use Rattle.port_facts.specs.declared.Completion.{Completion}
 use Rattle.tp_port.specs.Devices.{AreReady}
-use Rattle.tp_port.specs.Lists.{all_of, quota_of}
+use Rattle.tp_port.specs.Lists.{quota_of}
+use Rattle.port_facts.specs.Interleaved.{listed}
 use Rattle.tp_port.specs.Ports.{AreDealt}
 use Rattle.tp_port.specs.Pumps.{lists_of, quotas_for}
 use Rattle.tp_port.proofs.Lists.{sum_cons}
 
 -- the quotas together are the number of all completions
-pub sum_is : (devices : List (Vec Completion)) → sum (quotas_for devices) ≡ length (all_of (lists_of devices))
+pub sum_is : (devices : List (Vec Completion)) → sum (quotas_for devices) ≡ length (listed (lists_of devices))
 sum_is [] = refl
-sum_is (list ∷ devices) = sum_cons (length list.items) (quotas_for devices) ∙ omega (arith, sum_is devices, length-append list.items (all_of (lists_of devices)))
+sum_is (list ∷ devices) = sum_cons (length list.items) (quotas_for devices) ∙ omega (arith, sum_is devices, length-append list.items (listed (lists_of devices)))
 
 -- each list is no longer than all together
-pub one_of_all : (devices : List (Vec Completion)) (k : ℕ) (d : Vec Completion) → k < length devices → length (get_or devices k d).items ≤ length (all_of (lists_of devices))
+pub one_of_all : (devices : List (Vec Completion)) (k : ℕ) (d : Vec Completion) → k < length devices → length (get_or devices k d).items ≤ length (listed (lists_of devices))
 one_of_all [] k d inside = absurd (omega arith)
-one_of_all (list ∷ devices) zero d inside = omega (arith, length-append list.items (all_of (lists_of devices)))
-one_of_all (list ∷ devices) (suc k) d inside = omega (arith, length-append list.items (all_of (lists_of devices)), one_of_all devices k d (omega arith))
+one_of_all (list ∷ devices) zero d inside = omega (arith, length-append list.items (listed (lists_of devices)))
+one_of_all (list ∷ devices) (suc k) d inside = omega (arith, length-append list.items (listed (lists_of devices)), one_of_all devices k d (omega arith))
 
 quota_at : (devices : List (Vec Completion)) (k : ℕ) (d : Vec Completion) → k < length devices → get_or (quotas_for devices) k 0 ≡ length (get_or devices k d).items
 quota_at [] k d inside = absurd (omega arith)
@@ -44,9 +45,9 @@ all_quotas devices now quotas k same all is = is ∙ take_all k (quotas_for devi
 pub element_at : (devices now : List (Vec Completion)) (k : ℕ) (list : Vec Completion) → now ≡ devices → list ≡ get_or now k list → list ≡ get_or devices k list
 element_at devices now k list same is = is ∙ ap (λ (l : List (Vec Completion)). get_or l k list) same
 
-pub short_list : (devices now : List (Vec Completion)) (k : ℕ) (list : Vec Completion) → now ≡ devices → list ≡ get_or now k list → k < length now → length list.items ≤ length (all_of (lists_of devices))
+pub short_list : (devices now : List (Vec Completion)) (k : ℕ) (list : Vec Completion) → now ≡ devices → list ≡ get_or now k list → k < length now → length list.items ≤ length (listed (lists_of devices))
 short_list devices now k list same is inside =
-    subst (λ (v : Vec Completion). length v.items ≤ length (all_of (lists_of devices))) (sym (element_at devices now k list same is)) (one_of_all devices k list (omega (arith, ap length same)))
+    subst (λ (v : Vec Completion). length v.items ≤ length (listed (lists_of devices))) (sym (element_at devices now k list same is)) (one_of_all devices k list (omega (arith, ap length same)))
 
 pub are_ready : (port : Port) (devices : List (Vec Completion)) (quotas : List ℕ) (posts : List PostPass) → quotas ≡ quotas_for devices → AreDealt port quotas posts → AreReady port devices posts
 are_ready port devices quotas posts is dealt =

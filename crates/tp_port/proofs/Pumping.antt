@@ -1,7 +1,5 @@
 -- Completions that were taken, each made on the machine.
-use Rattle.std.proofs.Common.{◌≡◌, ℕ, zero, suc, ◌<◌, true, false, cond, List, [], ◌∷◌, ◌++◌, length, map, get_or, refl, sym, ap, ap₂, ◌∙◌, append_assoc, arith}
-use Rattle.std.specs.Prelude.{if◌then◌else◌, nat_eq}
-use Rattle.std.specs.List.{filter}
+use Rattle.std.proofs.Common.{◌≡◌, ℕ, zero, suc, ◌<◌, List, [], ◌∷◌, ◌++◌, length, map, get_or, refl, sym, ap, ap₂, ◌∙◌, append_assoc, arith}
 use Rattle.std.specs.Global.{Vec}
 use Rattle.recorded.specs.Recordings.{Recording}
 use Rattle.tp_port.specs.declared.passes.LastPass.{LastPass}
@@ -15,10 +13,8 @@ use Rattle.tp_port.specs.declared.passes.PostPass.{PostPass}
 use Rattle.port_facts.specs.Accepted.{all_made, made, with_entries}
 use Rattle.port_facts.specs.Accepted.{call_of as entry_call}
 use Rattle.port_facts.specs.Completions.{completions, HaveCompleted}
-use Rattle.port_facts.specs.Interleaved.{IsInterleaving}
-use Rattle.port_facts.specs.Interleaved.{of as of_device}
+use Rattle.port_facts.specs.Interleaved.{list_of, IsInterleaving}
 use Rattle.tp_port.specs.Devices.{AreEnded}
-use Rattle.tp_port.specs.Lists.{of, posted_at}
 use Rattle.tp_port.specs.Completing.{call_of}
 use Rattle.tp_port.specs.Ports.{posted_by, posted_last, taken_by, taken_last, HasTaken, HasTakenLast, IsGathered}
 use Rattle.tp_port.specs.Pumps.{lists_of, HasDrained, HasTakenLeft, HasTakenSome, IsPumped}
@@ -54,15 +50,6 @@ calls_are : (taken : List Posted) → map call_of taken ≡ map entry_call (comp
 calls_are [] = refl
 calls_are (x ∷ taken) = ap (λ (calls : List (Who × Call)). call_of x ∷ calls) (calls_are taken)
 
--- of a device the same, in the words of the facts
-of_is : (device : ℕ) (taken : List Posted) → of device taken ≡ of_device device taken
-of_is device [] = refl
-of_is device (x ∷ taken) =
-    elim (nat_eq x.device device) as (λ b. (if b then x.completion ∷ of device taken else of device taken) ≡ map (λ (y : Posted). y.completion) (cond b (x ∷ filter (λ (y : Posted). nat_eq y.device device) taken) (filter (λ (y : Posted). nat_eq y.device device) taken))) [
-      | true ↦ ap (λ (list : List Completion). x.completion ∷ list) (of_is device taken)
-      | false ↦ of_is device taken
-    ]
-
 -- what the devices have posted are their lists
 posted_are : (devices : List (Vec Completion)) (posts : List PostPass) → length posts ≡ length devices
     → ((k : ℕ) (d : Vec Completion) (p : PostPass) → k < length posts → posted_by (get_or posts k p) ≡ (get_or devices k d).items) → map posted_by posts ≡ lists_of devices
@@ -93,7 +80,7 @@ module _ (port : Port) (devices : List (Vec Completion)) (old mid new : Recordin
   lists_are = drained.took.same.posted ∙ gathered.posted ∙ posted_are devices posts ended.count (λ k d p inside. (ended.each k d p inside).posted)
 
   interleaves : IsInterleaving (lists_of devices) (taken_last end)
-  interleaves device = sym (of_is device (taken_last end)) ∙ drained.all device ∙ ap (λ (lists : List (List Completion)). posted_at lists device) lists_are
+  interleaves device = drained.all device ∙ ap (λ (lists : List (List Completion)). list_of lists device) lists_are
 
   pub pumped : (IsInterleaving (lists_of devices) (taken_last end) → HaveCompleted old (taken_last end)) → IsPumped (lists_of devices) old new end
   pumped accepted =

@@ -9,7 +9,8 @@ use Rattle.port_facts.specs.declared.Completion.{Completion}
 use Rattle.tp_port.specs.declared.views.Part.{Part}
 use Rattle.tp_port.specs.declared.views.Part.TheVariants.{Posts, Takes}
 use Rattle.port_facts.specs.declared.Posted.{Posted}
-use Rattle.tp_port.specs.Lists.{of, posted_at, quota_of}
+use Rattle.tp_port.specs.Lists.{quota_of}
+use Rattle.port_facts.specs.Interleaved.{list_of, of}
 use Rattle.tp_port.specs.Parts.{known_in, quota_in, room_in, put_in, quotas_in, taken_in}
 use Rattle.tp_port.specs.Rule.{AreBegun}
 
@@ -141,4 +142,4 @@ pub record HasTakenLast (port : Port) (x : Posted) (a b : LastPass) : Type 0 whe
 pub record IsDrained (port : Port) (a b : LastPass) : Type 0 where
   pub same : IsSameLast port a b
   pub taken : taken_last b ≡ taken_last a
-  pub all : (device : ℕ) → of device (taken_last b) ≡ posted_at (posted_last b) device
+  pub all : (device : ℕ) → of device (taken_last b) ≡ list_of (posted_last b) device

@@ -10,10 +10,9 @@ use Rattle.port_facts.specs.declared.Completion.{Completion}
 use Rattle.port_facts.specs.declared.Posted.{Posted}
 use Rattle.port_facts.specs.Accepted.{all_made}
 use Rattle.port_facts.specs.Completions.{completions}
-use Rattle.port_facts.specs.Interleaved.{IsInterleaving}
+use Rattle.port_facts.specs.Interleaved.{list_of, of, IsInterleaving}
 use Rattle.tp_port.specs.Completing.{call_of}
 use Rattle.tp_port.specs.Devices.{AreReady}
-use Rattle.tp_port.specs.Lists.{of, posted_at}
 use Rattle.tp_port.specs.Ports.{posted_last, quotas_of, taken_by, taken_last, IsSameLast, IsTakeOf}
 
 -- the devices' lists of completions
@@ -53,7 +52,7 @@ pub record HasTakenLeft (port : Port) (old new : Recording) (a b : LastPass) : T
 -- all that was left was taken
 pub record HasDrained (port : Port) (old new : Recording) (a b : LastPass) : Type 0 where
   pub took : HasTakenLeft port old new a b
-  pub all : (device : ℕ) → of device (taken_last b) ≡ posted_at (posted_last b) device
+  pub all : (device : ℕ) → of device (taken_last b) ≡ list_of (posted_last b) device
 
 -- all completions were taken, and the machine's new entries are theirs alone, all accepted, in the order in which they
 -- were taken; of each device those that were taken are its list

@@ -6,7 +6,8 @@ use Rattle.port_facts.specs.declared.Completion.{Completion}
 use Rattle.tp_port.specs.declared.views.Part.{Part}
 use Rattle.tp_port.specs.declared.views.Part.TheVariants.{Spent, Posts, Takes}
 use Rattle.port_facts.specs.declared.Posted.{Posted}
-use Rattle.tp_port.specs.Lists.{of, posted_at, quota_of, StartsWith}
+use Rattle.tp_port.specs.Lists.{quota_of, StartsWith}
+use Rattle.port_facts.specs.Interleaved.{list_of, of}
 use Rattle.tp_port.specs.Parts.{known_in, taken_in}
 
 -- what no pass knows as a whole: the quotas, which pass is the taker's, which one each device has while it is out, what
@@ -50,8 +51,8 @@ pub record Delivers (items : List Posted) (views : List Part) : Type 0 where
 
 -- of each device, what was taken and then what the queue holds is what it posted, as the taker knows it
 abbrev pub AreKnown : Part → List Posted → Type 0
-AreKnown v items = (device : ℕ) → of device (taken_in v ++ items) ≡ posted_at (known_in v) device
+AreKnown v items = (device : ℕ) → of device (taken_in v ++ items) ≡ list_of (known_in v) device
 
 -- of each device, what was taken is a beginning of what it posted
 abbrev pub AreBegun : Part → Type 0
-AreBegun v = (device : ℕ) → StartsWith (posted_at (known_in v) device) (of device (taken_in v))
+AreBegun v = (device : ℕ) → StartsWith (list_of (known_in v) device) (of device (taken_in v))

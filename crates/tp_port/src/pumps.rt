@@ -6,7 +6,6 @@ ghost use Rattle.port_facts.specs.Interleaved.{listed, AreListed};
 ghost use Rattle.recorded.specs.Recordings.{room_of, world_behind};
 ghost use Rattle.tp_port.specs.Completing.{call_of};
 ghost use Rattle.tp_port.specs.Devices.{AreEnded, AreReady};
-ghost use Rattle.tp_port.specs.Lists.{all_of};
 ghost use Rattle.tp_port.specs.Ports.{quotas_last, IsLastOf, IsTakeOf};
 ghost use Rattle.tp_port.specs.Pumps.{lists_of, HasDrained, HasTakenSome, IsPrepared, IsPumped};
 
@@ -37,7 +36,7 @@ pub struct Prepared {
 
 fn prepare(alloc: Global, devices: &Vec<Vec<Completion>>) -> Result<Prepared, AllocError>
     requires few { length devices.now.items ≤ 15 }
-    requires sum { length (all_of (lists_of devices.now.items)) < 2 ^ 32 }
+    requires sum { length (listed (lists_of devices.now.items)) < 2 ^ 32 }
     ensures { IfOk result (IsPrepared devices.now.items) }
 {
     let count = devices.len();
@@ -161,7 +160,7 @@ fn in_threads<B: Recorded, Rt: Threads + Wait + Sync, G: PortGate + Sync>(
 }
 
 /// Lets each device post its completions from a thread of its own, and makes each on the machine, as it
-/// is taken: client 2 completes those of device 1, and so on. There are 1 to 15 devices.
+/// is taken: client 2 completes those of device 1, and so on. There are 15 devices at most.
 ///
 /// The history's new entries are those of the completions alone, all accepted, in the order in which they
 /// were taken, which the pass tells; of each device they are its list, in order. In what order those of
