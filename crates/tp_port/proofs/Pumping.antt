@@ -3,7 +3,7 @@ use Rattle.std.proofs.Common.{◌≡◌, ℕ, zero, suc, ◌<◌, true, false, c
 use Rattle.std.specs.Prelude.{if◌then◌else◌, nat_eq}
 use Rattle.std.specs.List.{filter}
 use Rattle.std.specs.Global.{Vec}
-use Rattle.recorded.specs.Recordings.{Recording}
+use Rattle.recorded.specs.Recordings.{all_made, made, Recording}
 use Rattle.tp_port.specs.declared.passes.LastPass.{LastPass}
 use Rattle.tp_port.specs.declared.passes.TakePass.{TakePass}
 use Rattle.tp_port.specs.declared.port.Port.{Port}
@@ -12,7 +12,7 @@ use Rattle.port_facts.specs.declared.Posted.{Posted}
 use Rattle.tp_base.specs.declared.calls.Call.{Call}
 use Rattle.tp_base.specs.declared.ids.Who.{Who}
 use Rattle.tp_port.specs.declared.passes.PostPass.{PostPass}
-use Rattle.port_facts.specs.Accepted.{all_made, made, with_entries}
+use Rattle.port_facts.specs.Accepted.{with_entries}
 use Rattle.port_facts.specs.Accepted.{call_of as entry_call}
 use Rattle.port_facts.specs.Completions.{completions, HaveCompleted}
 use Rattle.port_facts.specs.Interleaved.{IsInterleaving}
