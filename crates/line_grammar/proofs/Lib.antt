@@ -1,4 +1,5 @@
 pub mod Cuts
+pub mod EndedFacts
 pub mod NumberFacts
 pub mod Pairs
 pub mod Readings

@@ -10,6 +10,15 @@ pub record EndedLine (L : List ℕ → Type 0) (text : List ℕ) : Type 0 where
   pub is_line : L line
   pub split : text ≡ line ++ 10 ∷ []
 
+-- the same of a language of values: a text of the value, and a line feed
+pub record IsEnded {V : Type 0} (W : V → List ℕ → Type 0) (value : V) (text : List ℕ) : Type 0 where
+  pub line : List ℕ
+  pub is_line : W value line
+  pub split : text ≡ line ++ 10 ∷ []
+
+abbrev pub Ended : {V : Type 0} → (V → List ℕ → Type 0) → V → List ℕ → Type 0
+Ended W value text = IsEnded W value text
+
 -- the lines one after another, each with its line feed
 abbrev pub trace_text : List (List ℕ) → List ℕ
 trace_text [] = []

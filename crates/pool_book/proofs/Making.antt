@@ -22,7 +22,7 @@ use Rattle.tp_model.proofs.Fitting.{opening_owes, step_enters}
 use Rattle.tp_model.proofs.Laws.{keeps_laws}
 use Rattle.pool_book.specs.Kept.{IsBook}
 use Rattle.recorded.specs.Recordings.{Recording, entries_told, outcome_behind, recorded, room_of, IsFirstOf}
-use Rattle.pool_book.proofs.Histories.{after_push, legal_push, stays}
+use Rattle.recorded.proofs.Histories.{after_append, legal_append, stays}
 
 -- ---- at the beginning
 
@@ -90,14 +90,14 @@ module _ (engine new : Remembered) (limits : Limits) (capacity len left : ℕ) (
       let right : outcome_of came ≡ Done answer = sym meets.answer ∙ done in
       let e = step_enters now (room capacity now (length history)) entry sound right in
       let size : length longer ≡ length history + 1 = ap length grown ∙ length-append history (entry ∷ []) in
-      let next : world_after now came ≡ after limits longer = e.leads ∙ sym (after_push (opening limits) history entry) ∙ ap (λ h. after limits h) (sym grown) in
+      let next : world_after now came ≡ after limits longer = e.leads ∙ sym (after_append (opening limits) history (entry ∷ [])) ∙ ap (λ h. after limits h) (sym grown) in
       let none : 0 + length history ≡ length history = omega arith in
       made (len + 1) longer
       (record {
         in_range = b.in_range;
         stands = subst (λ w. StandsFor new w) next meets.stands;
         legal = subst (λ h. IsLegal limits capacity h) (sym grown)
-            (legal_push (opening limits) capacity 0 history entry b.legal (ap (λ n. outcome_of (step now (room capacity now n) who call)) none ∙ right));
+            (legal_append (opening limits) capacity 0 history (entry ∷ []) b.legal (ap (λ n. outcome_of (step now (room capacity now n) who call)) none ∙ right, tt));
         counts = omega (arith, b.counts, size);
         young = omega (arith, b.young, size, aged (is_accepted came) engine.age new.age meets.ages);
         few = omega (arith, b.few, e.paid, size, ap owed next);

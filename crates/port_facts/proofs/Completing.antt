@@ -24,10 +24,11 @@ use Rattle.tp_model.proofs.Entries.{next_number_in}
 use Rattle.tp_model.proofs.Lists.{find_passes}
 use Rattle.tp_model.proofs.Refusals.{false_true}
 use Rattle.recorded.specs.Recordings.{room_of, world_behind, Recording}
+use Rattle.recorded.proofs.Histories.{sound_behind}
 use Rattle.port_facts.specs.Accepted.{with_entries, MayCall}
 use Rattle.port_facts.specs.Completions.{callbacks, completion_of, completions, AreCompletable, HaveCompleted, IsCompletable}
 use Rattle.port_facts.specs.declared.Posted.{Posted}
-use Rattle.port_facts.proofs.Following.{accepted, behind, first_follows, follows, none_follow, sound_behind, FollowAll, Follows}
+use Rattle.port_facts.proofs.Following.{accepted, behind, first_follows, follows, none_follow, FollowAll, Follows}
 
 -- ---- one completion
 

@@ -13,9 +13,10 @@ use Rattle.tp_model.proofs.Lists.{get_set_other}
 use Rattle.tp_model.proofs.Refusals.{false_true}
 use Rattle.tp_model.proofs.Unrefused.{finish_is}
 use Rattle.recorded.specs.Recordings.{world_behind, Recording}
+use Rattle.recorded.proofs.Histories.{sound_behind}
 use Rattle.port_facts.specs.Accepted.{AreAccepted, MayCall}
 use Rattle.port_facts.specs.SetUp.{finished, finishes}
-use Rattle.port_facts.proofs.Following.{accepted, first_follows, follows, none_follow, sound_behind, FollowAll, Follows}
+use Rattle.port_facts.proofs.Following.{accepted, first_follows, follows, none_follow, FollowAll, Follows}
 
 -- a client that finishes leaves the others as they are
 pub others_may : (w : World) (number client : ℕ) → number ≢ client → MayCall w number → MayCall w client → MayCall (with_client w number finished_row) client

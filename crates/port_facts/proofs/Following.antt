@@ -1,5 +1,5 @@
 -- Entries that follow on a history one after another.
-use Rattle.std.proofs.Common.{◌≡◌, ℕ, suc, ◌+◌, ◌≤◌, List, [], ◌∷◌, ◌++◌, length, map, cond, refl, sym, ap, ap₂, ◌∙◌, subst, arith, add-zero, append_assoc, append-nil, length-append}
+use Rattle.std.proofs.Common.{◌≡◌, ℕ, ◌+◌, ◌≤◌, List, [], ◌∷◌, ◌++◌, length, map, cond, refl, sym, ap, ap₂, ◌∙◌, subst, arith, append_assoc, append-nil, length-append}
 use Rattle.tp_base.specs.declared.answers.Entry.{Entry}
 use Rattle.tp_base.specs.declared.answers.Outcome.TheVariants as outcome
 use Rattle.tp_base.specs.declared.plans.Change.{Change}
@@ -16,10 +16,11 @@ use Rattle.tp_model.proofs.Costs.{paid}
 use Rattle.tp_model.proofs.Entries.{entry_leads, next_number_in, told_change}
 use Rattle.tp_model.proofs.Fitting.{step_enters}
 use Rattle.tp_model.proofs.Growing.{grows}
-use Rattle.tp_model.proofs.Sound.{changed_sound, opening_sound}
+use Rattle.tp_model.proofs.Sound.{changed_sound}
 use Rattle.tp_model.proofs.Steps.{cost_is, not_full, plan_allowed}
-use Rattle.recorded.specs.Recordings.{outcome_behind, recorded, world_behind, Recording}
-use Rattle.port_facts.specs.Accepted.{all_made, call_of, made, outcome_told, with_entries, AreAccepted, MayFollow}
+use Rattle.recorded.specs.Recordings.{all_made, made, outcome_behind, recorded, world_behind, Recording}
+use Rattle.recorded.proofs.Histories.{after_append, legal_append, legal_split, sound_behind}
+use Rattle.port_facts.specs.Accepted.{call_of, outcome_told, with_entries, AreAccepted, MayFollow}
 
 -- ---- one entry
 
@@ -65,16 +66,6 @@ first_follows w between next capacity entries price entry told first rest =
       sound = rest.sound;
     }
 
-pub after_append : (w : World) (told more : List Entry) → after_from w (told ++ more) ≡ after_from (after_from w told) more
-after_append w [] more = refl
-after_append w (entry ∷ told) more = after_append (led_to w entry) told more
-
-pub legal_append : (w : World) (capacity entries : ℕ) (told more : List Entry) → IsLegalFrom w capacity entries told → IsLegalFrom (after_from w told) capacity (entries + length told) more → IsLegalFrom w capacity entries (told ++ more)
-legal_append w capacity entries [] more legal rest = subst (λ n. IsLegalFrom w capacity n more) (add-zero entries) rest
-legal_append w capacity entries (entry ∷ told) more legal rest =
-    let sum : entries + suc (length told) ≡ (entries + 1) + length told = omega arith in
-    (legal.0, legal_append (led_to w entry) capacity (entries + 1) told more legal.1 (subst (λ n. IsLegalFrom (after_from (led_to w entry) told) capacity n more) sum rest))
-
 pub then_follow : (w between next : World) (capacity entries count : ℕ) (told more : List Entry) → count ≡ entries + length told → FollowAll w capacity entries told between → FollowAll between capacity count more next
     → FollowAll w capacity entries (told ++ more) next
 then_follow w between next capacity entries count told more is first rest =
@@ -85,13 +76,6 @@ then_follow w between next capacity entries count told more is first rest =
     }
 
 -- ---- behind a recording
-
-sound_from : (w : World) (capacity entries : ℕ) (told : List Entry) → IsSound (next_number_in w) w → IsLegalFrom w capacity entries told → IsSound (next_number_in (after_from w told)) (after_from w told)
-sound_from w capacity entries [] sound legal = sound
-sound_from w capacity entries (entry ∷ told) sound legal = sound_from (led_to w entry) capacity (entries + 1) told (entry_leads w (room capacity w entries) entry sound legal.0).sound legal.1
-
-pub sound_behind : (r : Recording) → IsLegal r.limits r.capacity r.history → IsSound (next_number_in (world_behind r)) (world_behind r)
-sound_behind r legal = sound_from (opening r.limits) r.capacity 0 r.history (opening_sound r.limits) legal
 
 -- the calls of a legal history's entries come to their answers
 plays : (w : World) (capacity entries : ℕ) (told : List Entry) → IsSound (next_number_in w) w → IsLegalFrom w capacity entries told → play_from w capacity entries (map call_of told) ≡ map outcome_told told
@@ -114,13 +98,6 @@ are_made r (entry ∷ told) legal =
     ap (λ x. all_made x (map call_of told)) one ∙ (are_made next told rest ∙ ap (λ h. record r { history = h }) (append_assoc r.history (entry ∷ []) told))
 
 -- ---- what is legal is accepted
-
-legal_split : (w : World) (capacity entries : ℕ) (told more : List Entry) → IsLegalFrom w capacity entries (told ++ more) → IsLegalFrom w capacity entries told × IsLegalFrom (after_from w told) capacity (entries + length told) more
-legal_split w capacity entries [] more legal = (tt, subst (λ n. IsLegalFrom w capacity n more) (sym (add-zero entries)) legal)
-legal_split w capacity entries (entry ∷ told) more legal =
-    let rest = legal_split (led_to w entry) capacity (entries + 1) told more legal.1 in
-    let sum : (entries + 1) + length told ≡ entries + suc (length told) = omega arith in
-    ((legal.0, rest.0), subst (λ n. IsLegalFrom (after_from (led_to w entry) told) capacity n more) sum rest.1)
 
 legal_behind : (r : Recording) (told : List Entry) → MayFollow r told → IsLegal r.limits r.capacity r.history × IsLegalFrom (world_behind r) r.capacity (length r.history) told
 legal_behind r told legal =

@@ -1,5 +1,5 @@
 -- Entries that may follow on a history: the calls that they tell of are answered as they say.
-use Rattle.std.specs.Prelude.{◌≡◌, ℕ, List, [], ◌∷◌, ◌++◌, map, false, true}
+use Rattle.std.specs.Prelude.{◌≡◌, ℕ, List, ◌++◌, map, false, true}
 use Rattle.tp_base.specs.declared.answers.Entry.{Entry}
 use Rattle.tp_base.specs.declared.answers.Outcome.{Outcome}
 use Rattle.tp_base.specs.declared.answers.Outcome.TheVariants.{Done}
@@ -9,7 +9,7 @@ use Rattle.tp_base.specs.declared.ids.Who.TheVariants.{Client}
 use Rattle.tp_model.specs.Conditions.{is_actor, is_finished, is_in_wait}
 use Rattle.tp_model.specs.History.{IsLegal}
 use Rattle.tp_model.specs.World.{World}
-use Rattle.recorded.specs.Recordings.{outcome_behind, outcomes_behind, recorded, Recording}
+use Rattle.recorded.specs.Recordings.{all_made, outcomes_behind, Recording}
 
 -- the client is there, hasn't finished and has no wait begun
 pub record MayCall (w : World) (client : ℕ) : Type 0 where
@@ -22,14 +22,6 @@ call_of entry = (entry.who, entry.call)
 
 abbrev pub outcome_told : Entry → Outcome
 outcome_told entry = Done entry.answer
-
--- the recording once a call, or one call after another, was made
-abbrev pub made : Recording → Who × Call → Recording
-made r call = recorded r call.0 call.1 (outcome_behind r call.0 call.1)
-
-abbrev pub all_made : Recording → List (Who × Call) → Recording
-all_made r [] = r
-all_made r (call ∷ calls) = all_made (made r call) calls
 
 abbrev pub with_entries : Recording → List Entry → Recording
 with_entries r entries = record r { history = r.history ++ entries }

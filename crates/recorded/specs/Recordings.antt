@@ -49,6 +49,20 @@ entries_told who call (Full room cost) = []
 abbrev pub recorded : Recording → Who → Call → Outcome → Recording
 recorded r who call told = record r { history = r.history ++ entries_told who call told }
 
+-- the recording once a call, or one call after another, was made
+abbrev pub made : Recording → Who × Call → Recording
+made r call = recorded r call.0 call.1 (outcome_behind r call.0 call.1)
+
+abbrev pub all_made : Recording → List (Who × Call) → Recording
+all_made r [] = r
+all_made r (call ∷ calls) = all_made (made r call) calls
+
+-- what is written down of calls that come to these outcomes
+abbrev pub entries_of : List (Who × Call) → List Outcome → List Entry
+entries_of [] outcomes = []
+entries_of (call ∷ calls) [] = []
+entries_of (call ∷ calls) (told ∷ outcomes) = entries_told call.0 call.1 told ++ entries_of calls outcomes
+
 -- what further calls come to behind the history
 abbrev pub outcomes_behind : Recording → List (Who × Call) → List Outcome
 outcomes_behind r calls = play_from (world_behind r) r.capacity (length r.history) calls

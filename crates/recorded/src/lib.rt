@@ -20,14 +20,16 @@
 
 #![tactic(auto)]
 
-ghost use Rattle.std.specs.Prelude.{◌≡◌, ◌<◌, ◌≤◌, [], length, option_map, Err, IfErr, IfOk};
+ghost use Rattle.std.specs.Prelude.{◌≡◌, ◌<◌, ◌≤◌, List, [], ◌++◌, length, option_map, Err, IfErr, IfOk};
+ghost use Rattle.tp_base.specs.declared.calls.Call.{Call as CallMade};
+ghost use Rattle.tp_base.specs.declared.ids.Who.{Who as Actor};
 ghost use Rattle.tp_base.specs.Ranges.{AreLimitsInRange, IsCallInRange, IsOutcomeInRange};
 ghost use Rattle.tp_model.specs.History.{IsLegal};
 ghost use Rattle.tp_model.specs.Laws.{KeepsLaws};
 ghost use Rattle.tp_model.specs.Over.{row_of};
 ghost use Rattle.recorded.specs.declared.OpenFault.TheVariants.{NoMemory, TooSmall};
 ghost use Rattle.recorded.specs.ProgramLimits.{program_limits};
-ghost use Rattle.recorded.specs.Recordings.{is_over_behind, left_behind, outcome_behind, recorded, room_of, IsFirstOf, Recording};
+ghost use Rattle.recorded.specs.Recordings.{all_made, entries_of, is_over_behind, left_behind, outcome_behind, outcomes_behind, recorded, room_of, IsFirstOf, Recording};
 
 use std::alloc::{AllocError, Global};
 use tp_base::answers::{Look, Outcome};
@@ -157,6 +159,16 @@ pub trait Recorded: Drop {
     fn capacity(&self) -> u32
         ensures { result ≡ (recording self.now).capacity };
 }
+
+/// Calls that are made one after another behind a legal history are played: the history goes on with the
+/// entries of what they come to there, on the same machine, and stays legal. It does nothing: who calls
+/// it knows this.
+pub fn made_is_played()
+    ensures history { (r : Recording) (calls : List (Actor × CallMade)) → IsLegal r.limits r.capacity r.history → (all_made r calls).history ≡ r.history ++ entries_of calls (outcomes_behind r calls) }
+    ensures limits { (r : Recording) (calls : List (Actor × CallMade)) → (all_made r calls).limits ≡ r.limits }
+    ensures capacity { (r : Recording) (calls : List (Actor × CallMade)) → (all_made r calls).capacity ≡ r.capacity }
+    ensures legal { (r : Recording) (calls : List (Actor × CallMade)) → IsLegal r.limits r.capacity r.history → IsLegal (all_made r calls).limits (all_made r calls).capacity (all_made r calls).history }
+{}
 
 /// How many objects the program's machine has at most.
 pub const OBJECT_LIMIT: u32 = 65_535;

@@ -180,8 +180,9 @@ pub(crate) fn read_call(text: &[u8]) -> Result<(Call, usize), usize>
     }
 }
 
-/// Reads an actor.
-pub(crate) fn read_who(text: &[u8]) -> Result<(Who, usize), usize>
+/// Reads an actor, to which more may be added: `c` and the number of a client from 1 to 16, or `w` and that of a
+/// worker from 1 to 64. `Err` has the place up to which the text goes along with one.
+pub fn read_who(text: &[u8]) -> Result<(Who, usize), usize>
     ensures { IsRead WhoTexts text.now result }
 {
     match behind(b'w', text) {

@@ -1,6 +1,6 @@
 //! Printing of what calls come to, and writing of entries.
 
-ghost use Rattle.std.specs.Prelude.{◌≡◌, ◌+◌, ◌≤◌, ◌++◌, ◌∷◌, [], ℕ, List, IfOk, OnErr, OnOk, length, take};
+ghost use Rattle.std.specs.Prelude.{◌≡◌, ◌+◌, ◌≤◌, ◌++◌, ◌∷◌, [], ℕ, List, IfOk, OnErr, OnOk, decimal, length, take};
 ghost use Rattle.tp_lines.specs.Answers.{line_of_entry, text_of_look, text_of_outcome};
 ghost use Rattle.tp_lines.specs.Writing.{IsPut};
 
@@ -59,10 +59,34 @@ impl Lines {
         ensures ok { OnOk result (self.new ≡ self.old ++ (text_of_outcome outcome.now ++ 10 ∷ [])) }
         ensures err { OnErr result (self.new ≡ self.old) }
     {
-        if self.bytes.len() - self.end < ROOM {
-            grow(&mut self.bytes)?;
-        }
+        make_room(&mut self.bytes, self.end)?;
         let end = put_outcome(outcome, &mut self.bytes, self.end);
+        self.end = line::byte(b'\n', &mut self.bytes, end);
+        Ok(())
+    }
+
+    /// Prints a text of at most 200 bytes as a line. On want of memory nothing is printed.
+    pub fn text(&mut self, text: &[u8]) -> Result<(), AllocError>
+        requires { length text.now ≤ 200 }
+        ensures ok { OnOk result (self.new ≡ self.old ++ (text.now ++ 10 ∷ [])) }
+        ensures err { OnErr result (self.new ≡ self.old) }
+    {
+        make_room(&mut self.bytes, self.end)?;
+        let end = line::text(text, &mut self.bytes, self.end);
+        self.end = line::byte(b'\n', &mut self.bytes, end);
+        Ok(())
+    }
+
+    /// Prints a text of at most 200 bytes, and a number in decimal right behind it, as a line. On want of memory
+    /// nothing is printed.
+    pub fn number(&mut self, text: &[u8], number: u64) -> Result<(), AllocError>
+        requires { length text.now ≤ 200 }
+        ensures ok { OnOk result (self.new ≡ self.old ++ (text.now ++ decimal number ++ 10 ∷ [])) }
+        ensures err { OnErr result (self.new ≡ self.old) }
+    {
+        make_room(&mut self.bytes, self.end)?;
+        let start = line::text(text, &mut self.bytes, self.end);
+        let end = line::digits(number, &mut self.bytes, start);
         self.end = line::byte(b'\n', &mut self.bytes, end);
         Ok(())
     }
@@ -74,6 +98,20 @@ impl Lines {
         self.bytes.truncate(self.end);
         self.bytes
     }
+}
+
+// Takes room for a line behind `end`, where there is none. What stands before that stays.
+#[inline(always)]
+fn make_room(bytes: &mut Vec<u8>, end: usize) -> Result<(), AllocError>
+    requires { end ≤ length bytes.old.items }
+    ensures ok { OnOk result (end + ROOM ≤ length bytes.new.items) }
+    ensures kept { take end bytes.new.items ≡ take end bytes.old.items }
+    ensures within { end ≤ length bytes.new.items }
+{
+    if bytes.len() - end < ROOM {
+        grow(bytes)?;
+    }
+    Ok(())
 }
 
 // Takes room for lines. What stands there stays.

@@ -1,7 +1,7 @@
 -- Completions that were taken, each made on the machine.
 use Rattle.std.proofs.Common.{◌≡◌, ℕ, zero, suc, ◌<◌, List, [], ◌∷◌, ◌++◌, length, map, get_or, refl, sym, ap, ap₂, ◌∙◌, append_assoc, arith}
 use Rattle.std.specs.Global.{Vec}
-use Rattle.recorded.specs.Recordings.{Recording}
+use Rattle.recorded.specs.Recordings.{all_made, made, Recording}
 use Rattle.tp_port.specs.declared.passes.LastPass.{LastPass}
 use Rattle.tp_port.specs.declared.passes.TakePass.{TakePass}
 use Rattle.tp_port.specs.declared.port.Port.{Port}
@@ -10,7 +10,7 @@ use Rattle.port_facts.specs.declared.Posted.{Posted}
 use Rattle.tp_base.specs.declared.calls.Call.{Call}
 use Rattle.tp_base.specs.declared.ids.Who.{Who}
 use Rattle.tp_port.specs.declared.passes.PostPass.{PostPass}
-use Rattle.port_facts.specs.Accepted.{all_made, made, with_entries}
+use Rattle.port_facts.specs.Accepted.{with_entries}
 use Rattle.port_facts.specs.Accepted.{call_of as entry_call}
 use Rattle.port_facts.specs.Completions.{completions, HaveCompleted}
 use Rattle.port_facts.specs.Interleaved.{list_of, IsInterleaving}

@@ -1,14 +1,13 @@
 -- What contracts say of the pump.
 use Rattle.std.specs.Prelude.{◌≡◌, ℕ, ◌≤◌, List, [], ◌++◌, length, map, vec_items, vec_capacity}
 use Rattle.std.specs.Global.{Vec}
-use Rattle.recorded.specs.Recordings.{Recording}
+use Rattle.recorded.specs.Recordings.{all_made, Recording}
 use Rattle.tp_port.specs.declared.passes.LastPass.{LastPass}
 use Rattle.tp_port.specs.declared.passes.TakePass.{TakePass}
 use Rattle.tp_port.specs.declared.port.Port.{Port}
 use Rattle.tp_port.specs.declared.pumps.Prepared.{Prepared}
 use Rattle.port_facts.specs.declared.Completion.{Completion}
 use Rattle.port_facts.specs.declared.Posted.{Posted}
-use Rattle.port_facts.specs.Accepted.{all_made}
 use Rattle.port_facts.specs.Completions.{completions}
 use Rattle.port_facts.specs.Interleaved.{list_of, of, IsInterleaving}
 use Rattle.tp_port.specs.Completing.{call_of}

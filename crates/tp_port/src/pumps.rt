@@ -1,9 +1,8 @@
 //! The pump: devices post in threads of their own, and what they post is completed on a machine.
 
 ghost use Rattle.std.specs.Prelude.{◌≡◌, ◌+◌, ◌^◌, ◌<◌, ◌≤◌, [], length, vec_capacity, All, IfErr, IfOk};
-ghost use Rattle.port_facts.specs.Accepted.{made};
 ghost use Rattle.port_facts.specs.Interleaved.{listed, AreListed};
-ghost use Rattle.recorded.specs.Recordings.{room_of, world_behind};
+ghost use Rattle.recorded.specs.Recordings.{made, room_of, world_behind};
 ghost use Rattle.tp_port.specs.Completing.{call_of};
 ghost use Rattle.tp_port.specs.Devices.{AreEnded, AreReady};
 ghost use Rattle.tp_port.specs.Ports.{quotas_last, IsLastOf, IsTakeOf};

@@ -1,7 +1,6 @@
 pub mod Alike
 pub mod Clock
 pub mod Deciding
-pub mod EndedFacts
 mod Examples
 pub mod Feeds
 pub mod Floatless

@@ -22,7 +22,8 @@ use Rattle.tp_report.specs.declared.headers.Format.{Format}
 use Rattle.tp_report.specs.declared.headers.Format.TheVariants.{One, Two}
 use Rattle.tp_report.specs.declared.lines.Line.{Line}
 use Rattle.tp_report.specs.Histories.{HasEntryLine, HasMoment, IsLine, Lines, front_with}
-use Rattle.tp_report.specs.Readings.{Ended, MomentLines, Moments, read_as}
+use Rattle.line_grammar.specs.Traces.{Ended}
+use Rattle.tp_report.specs.Readings.{MomentLines, Moments, read_as}
 use Rattle.tp_report.proofs.Feeds.{IsFree, free_append, free_decimal}
 use Rattle.tp_report.proofs.FreeLines.{entry_free}
 

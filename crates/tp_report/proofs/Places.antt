@@ -26,7 +26,8 @@ use Rattle.tp_report.specs.declared.headers.Format.TheVariants.{One, Two}
 use Rattle.tp_report.specs.declared.headers.Header.{Header}
 use Rattle.tp_report.specs.declared.lines.Line.{Line}
 use Rattle.tp_report.specs.Histories.{AreObjects, HasEntryLine, HasMoment, HeaderLines, IsLine, Lines, NextLines, end_line, mark_of, objects_text}
-use Rattle.tp_report.specs.Readings.{Ended, Ends}
+use Rattle.line_grammar.specs.Traces.{Ended}
+use Rattle.tp_report.specs.Readings.{Ends}
 use Rattle.tp_report.proofs.Feeds.{IsFree, free_append, free_decimal}
 use Rattle.tp_report.proofs.FreeLines.{entry_free, end_free}
 use Rattle.tp_report.proofs.HeaderFacts.{headers_part}

@@ -5,7 +5,7 @@ use Rattle.std.proofs.lemmas.List.{append_assoc, append-nil, length-append, leng
 use Rattle.std.proofs.lemmas.List.Elements.{All-nil, All-push, All-head, All-tail}
 use Rattle.line_grammar.specs.Language.{IsReadTo, IsStuck}
 use Rattle.line_grammar.specs.Parts.{IsPart}
-use Rattle.line_grammar.specs.Traces.{trace_text}
+use Rattle.line_grammar.specs.Traces.{Ended, trace_text}
 use Rattle.tp_report.specs.declared.headers.Format.{Format}
 use Rattle.tp_report.specs.declared.headers.Header.{Header}
 use Rattle.tp_report.specs.declared.lines.Line.{Line}
@@ -15,7 +15,7 @@ use Rattle.tp_report.specs.declared.verdict.Verdict.{Verdict}
 use Rattle.tp_report.specs.declared.verdict.Verdict.TheVariants.{Legal, NotLegal, WrongMoment}
 use Rattle.recorded.specs.Recordings.{Recording}
 use Rattle.tp_report.specs.Histories.{HasHeaderLine, HasLine, HeaderLines, IsHistory, IsHistoryFault, IsLine, NextLines, end_line, entries_of, header_line, line_of}
-use Rattle.tp_report.specs.Readings.{Ended, IsNext}
+use Rattle.tp_report.specs.Readings.{IsNext}
 use Rattle.tp_report.specs.declared.lines.Next.TheVariants.{Another, End, Fault}
 use Rattle.tp_base.specs.declared.limits.Limits.{Limits}
 use Rattle.tp_model.specs.Laws.{KeepsLaws}
@@ -23,7 +23,7 @@ use Rattle.tp_model.proofs.Laws.{keeps_laws}
 use Rattle.tp_report.specs.Faults.{IsOrNoMemory, IsPlace}
 use Rattle.tp_report.specs.Judging.{AreLines, AreRest, IsBookOf, IsJudgedOn, IsJudgedTo, IsLinesFault, IsSameMachine, IsVerdictBehind, KeepsUp, len_told, lines_text}
 use Rattle.tp_report.specs.Verdicts.{IfLegal, IsJudged, IsVerdict, limits_of}
-use Rattle.tp_report.proofs.EndedFacts.{read_first, stuck_first, reaches_line, absent_line}
+use Rattle.line_grammar.proofs.EndedFacts.{read_first, stuck_first, reaches_line, absent_line}
 use Rattle.tp_report.proofs.Places.{header_part, next_part}
 
 pub lines_text-append : (lines more : List Line) → lines_text (lines ++ more) ≡ lines_text lines ++ lines_text more

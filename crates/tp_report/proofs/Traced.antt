@@ -5,9 +5,9 @@ use Rattle.std.proofs.lemmas.List.{append-nil, nil_from_length, length-map, leng
 use Rattle.std.proofs.lemmas.List.Elements.{All-nil, All-push, All-head, All-tail, All-map, All-weaker}
 use Rattle.std.proofs.Math.Seq.{drop-append_seam}
 use Rattle.line_grammar.specs.Language.{IsReadTo as IsReadAs, IsStuck}
-use Rattle.line_grammar.specs.Traces.{trace_text, IsAhead, IsTraceFault}
+use Rattle.line_grammar.specs.Traces.{Ended, trace_text, IsAhead, IsTraceFault}
 use Rattle.recorded.specs.ProgramLimits.{program_limits}
-use Rattle.recorded.specs.Recordings.{Recording, IsFirstOf, entries_told, outcomes_behind, recorded}
+use Rattle.recorded.specs.Recordings.{Recording, IsFirstOf, entries_of, entries_told, outcomes_behind, recorded}
 use Rattle.tp_base.specs.declared.answers.Outcome.{Outcome}
 use Rattle.tp_base.specs.declared.calls.Call.{Call}
 use Rattle.tp_base.specs.declared.ids.Who.{Who}
@@ -17,10 +17,9 @@ use Rattle.tp_lines.specs.Calls.{CallLines, IsLine, IsWhoInRange}
 use Rattle.tp_model.specs.History.{play}
 use Rattle.tp_report.specs.Playing.{book_of, IsPlayed, IsPlayedOf, IsPlayedTo, IsReadTo}
 use Rattle.tp_report.specs.declared.playing.MachineSize.{MachineSize}
-use Rattle.tp_report.specs.Readings.{Ended}
-use Rattle.tp_report.specs.Traces.{line_of, HasLine, IsTraceOf, answers_text, client_number, entries_of}
+use Rattle.tp_report.specs.Traces.{line_of, HasLine, IsTraceOf, answers_text, client_number}
 use Rattle.tp_report.specs.declared.playing.Played.{Played}
-use Rattle.tp_report.proofs.EndedFacts.{ahead_read, read_first, stuck_first, reaches_line, absent_line}
+use Rattle.line_grammar.proofs.EndedFacts.{ahead_read, read_first, stuck_first, reaches_line, absent_line}
 use Rattle.tp_report.proofs.Places.{call_part}
 
 -- ---- read

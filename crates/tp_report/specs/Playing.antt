@@ -2,14 +2,14 @@
 use Rattle.std.specs.Prelude.{◌≡◌, ℕ, ◌≤◌, List, ◌++◌, length, map, All}
 use Rattle.line_grammar.specs.Traces.{trace_text}
 use Rattle.recorded.specs.ProgramLimits.{program_limits}
-use Rattle.recorded.specs.Recordings.{Recording, IsFirstOf, outcomes_behind}
+use Rattle.recorded.specs.Recordings.{Recording, IsFirstOf, entries_of, outcomes_behind}
 use Rattle.tp_base.specs.declared.answers.Outcome.{Outcome}
 use Rattle.tp_base.specs.declared.answers.Outcome.TheVariants.{Done}
 use Rattle.tp_base.specs.declared.calls.Call.{Call}
 use Rattle.tp_base.specs.declared.ids.Who.{Who}
 use Rattle.tp_base.specs.declared.limits.Limits.{Limits}
 use Rattle.tp_model.specs.History.{play}
-use Rattle.tp_report.specs.Traces.{line_of, HasLine, IsTraceOf, answers_text, clients_in, entries_of, limits_of, output_of}
+use Rattle.tp_report.specs.Traces.{line_of, HasLine, IsTraceOf, answers_text, clients_in, limits_of, output_of}
 use Rattle.tp_report.specs.declared.playing.MachineSize.{MachineSize}
 use Rattle.tp_report.specs.declared.playing.Played.{Played}
 

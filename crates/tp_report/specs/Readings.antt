@@ -3,6 +3,7 @@ use Rattle.std.specs.Prelude.{◌≡◌, ℕ, ◌≤◌, List, [], ◌∷◌, �
 use Rattle.line_grammar.specs.Language.{IsReadTo, IsStuck}
 use Rattle.line_grammar.specs.Numbers.{Numbers}
 use Rattle.line_grammar.specs.Parts.{Led, Pairs}
+use Rattle.line_grammar.specs.Traces.{Ended}
 use Rattle.line_grammar.specs.Words.{Either, Word}
 use Rattle.recorded.specs.declared.TheConstants.{OBJECT_LIMIT}
 use Rattle.tp_base.specs.declared.answers.Entry.{Entry}
@@ -43,15 +44,6 @@ Sizes format = Pairs (Keyed (codes " workers") 1 64) (λ workers. Rooms format)
 
 abbrev pub Counts : Format → (ℕ × (ℕ × (ℕ × ℕ))) → List ℕ → Type 0
 Counts format = Pairs (Keyed (codes " clients") 0 16) (λ clients. Sizes format)
-
--- a text of the language, and a line feed
-pub record IsEnded {V : Type 0} (W : V → List ℕ → Type 0) (value : V) (text : List ℕ) : Type 0 where
-  pub line : List ℕ
-  pub is_line : W value line
-  pub split : text ≡ line ++ 10 ∷ []
-
-abbrev pub Ended : {V : Type 0} → (V → List ℕ → Type 0) → V → List ℕ → Type 0
-Ended W value text = IsEnded W value text
 
 -- the number of a moment
 abbrev pub Moments : ℕ → List ℕ → Type 0

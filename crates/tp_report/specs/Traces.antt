@@ -3,7 +3,7 @@ use Rattle.std.specs.Prelude.{◌≡◌, ℕ, ◌≤◌, List, [], ◌∷◌, �
 use Rattle.std.specs.Global.{Vec}
 use Rattle.line_grammar.specs.Traces.{trace_text}
 use Rattle.recorded.specs.ProgramLimits.{program_limits}
-use Rattle.recorded.specs.Recordings.{entries_told}
+use Rattle.recorded.specs.Recordings.{entries_of}
 use Rattle.tp_base.specs.declared.answers.Entry.{Entry}
 use Rattle.tp_base.specs.declared.answers.Outcome.{Outcome}
 use Rattle.tp_base.specs.declared.calls.Call.{Call}
@@ -66,12 +66,6 @@ pub record IsOutput (machine : MachineSize) (bytes output : List ℕ) : Type 0 w
   pub output_is : output ≡ output_of machine calls
 
 -- ---- their history
-
--- what is written down of calls that come to these outcomes
-abbrev pub entries_of : List (Who × Call) → List Outcome → List Entry
-entries_of [] outcomes = []
-entries_of (made ∷ calls) [] = []
-entries_of (made ∷ calls) (told ∷ outcomes) = entries_told made.0 made.1 told ++ entries_of calls outcomes
 
 -- the history that the calls of a trace make on a machine of this size that has made no step
 abbrev pub history_of : MachineSize → List (Who × Call) → List Entry

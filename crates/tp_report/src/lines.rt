@@ -7,7 +7,8 @@ ghost use Rattle.tp_lines.specs.Calls.{CallLines};
 ghost use Rattle.tp_report.specs.declared.headers.Format.TheVariants.{Two};
 ghost use Rattle.tp_report.specs.declared.lines.Line.{Line as Written};
 ghost use Rattle.tp_report.specs.Histories.{end_line, HeaderLines, Lines};
-ghost use Rattle.tp_report.specs.Readings.{Ended, IsEndRead, IsNext, IsStamp, read_as};
+ghost use Rattle.line_grammar.specs.Traces.{Ended};
+ghost use Rattle.tp_report.specs.Readings.{IsEndRead, IsNext, IsStamp, read_as};
 
 use crate::headers::{Format, Header, read_header};
 use crate::moments::{Stamp, read_moment};

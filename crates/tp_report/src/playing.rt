@@ -1,7 +1,7 @@
 //! Playing of traces.
 
 ghost use Rattle.std.specs.Prelude.{◌≡◌, ℕ, ◌+◌, ◌≤◌, ◌<◌, ◌-◌, ◌^◌, ◌++◌, ◌∷◌, [], List, IfErr, IfOk, IfSome, OnOk, length, max};
-ghost use Rattle.line_grammar.specs.Traces.{IsTraceFault};
+ghost use Rattle.line_grammar.specs.Traces.{Ended, IsTraceFault};
 ghost use Rattle.recorded.specs.ProgramLimits.{program_limits};
 ghost use Rattle.recorded.specs.Recordings.{IsFirstOf, outcome_behind, recorded};
 ghost use Rattle.tp_base.specs.declared.calls.Call.{Call as Made};
@@ -11,7 +11,6 @@ ghost use Rattle.tp_lines.specs.Answers.{text_of_outcome};
 ghost use Rattle.tp_lines.specs.Calls.{CallLines, IsLine};
 ghost use Rattle.tp_report.specs.Faults.{IsOrNoMemory, IsPlace};
 ghost use Rattle.tp_report.specs.Playing.{ArePlayed, AreCallsPlayed, IsPlayed, IsPlayedOf, IsPlayedTo, IsSameAgain, size_of};
-ghost use Rattle.tp_report.specs.Readings.{Ended};
 ghost use Rattle.tp_report.specs.declared.playing.MachineSize.{MachineSize as Size};
 ghost use Rattle.tp_report.specs.Traces.{client_number, IsHistoryOf, IsHistoryOutput, IsMachineSize, IsOutput, IsOutputOf, IsTraceOf};
 

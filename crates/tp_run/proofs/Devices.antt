@@ -5,7 +5,7 @@ use Rattle.std.proofs.lemmas.Bool.Decides.{nat_tests}
 use Rattle.std.specs.Result.{IsErrAnd}
 use Rattle.std.specs.Global.{Vec}
 use Rattle.port_calls.specs.PortCalls.{numbered, objects_of}
-use Rattle.port_facts.specs.Accepted.{all_made, call_of, with_entries, AreAccepted}
+use Rattle.port_facts.specs.Accepted.{call_of, with_entries, AreAccepted}
 use Rattle.port_facts.specs.Completions.{completions, HaveCompleted}
 use Rattle.port_facts.specs.Interleaved.{listed, port_history, AreInOrder, AreListed, IsInterleaving, list_of, of}
 use Rattle.port_facts.specs.SetUp.{behind_set_up, finishes, no_history, set_up, IsPort, IsSetUp}
@@ -17,7 +17,7 @@ use Rattle.port_lines.specs.declared.faults.PortFault.{PortFault}
 use Rattle.port_lines.specs.declared.faults.PortFault.TheVariants.{NoMemory, At}
 use Rattle.port_lines.specs.declared.lines.Operation.{Operation}
 use Rattle.recorded.specs.ProgramLimits.{program_limits}
-use Rattle.recorded.specs.Recordings.{room_of, world_behind, Recording}
+use Rattle.recorded.specs.Recordings.{all_made, room_of, world_behind, Recording}
 use Rattle.tp_base.specs.declared.answers.Entry.{Entry}
 use Rattle.tp_base.specs.declared.calls.Call.{Call}
 use Rattle.tp_base.specs.declared.ids.ObjectId.{ObjectId}

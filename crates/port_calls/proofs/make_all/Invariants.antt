@@ -1,5 +1,5 @@
 use Rattle.std.proofs.Common.{◌≡◌, drop}
-use Rattle.port_facts.specs.Accepted.{all_made}
+use Rattle.recorded.specs.Recordings.{all_made}
 use Rattle.port_calls.proofs.make_all.Given as goal
 
 abbrev pub invariant-loop-who : goal.invariant-loop-who

@@ -1,5 +1,5 @@
 use Rattle.tp_lines.specs.Calls.{CallLines}
-use Rattle.tp_report.proofs.EndedFacts.{ahead_read}
+use Rattle.line_grammar.proofs.EndedFacts.{ahead_read}
 use Rattle.tp_report.proofs.Places.{call_part}
 use Rattle.tp_report.proofs.lines.read_call.Goals as goal
 

@@ -1,5 +1,5 @@
 use Rattle.tp_report.specs.Histories.{HeaderLines}
-use Rattle.tp_report.proofs.EndedFacts.{ended_stuck, ended_open, ended_read}
+use Rattle.line_grammar.proofs.EndedFacts.{ended_stuck, ended_open, ended_read}
 use Rattle.tp_report.proofs.Places.{header_part}
 use Rattle.tp_report.proofs.lines.read_header_line.Goals as goal
 

@@ -2,7 +2,8 @@ use Rattle.std.proofs.Common.{sym, subst}
 use Rattle.std.specs.Prelude.{None}
 use Rattle.line_grammar.specs.Language.{IsRead}
 use Rattle.tp_report.specs.Histories.{Lines}
-use Rattle.tp_report.specs.Readings.{Ended, read_as}
+use Rattle.line_grammar.specs.Traces.{Ended}
+use Rattle.tp_report.specs.Readings.{read_as}
 use Rattle.tp_report.proofs.LineFacts.{one_read}
 use Rattle.tp_report.proofs.lines.read_line.Goals as goal
 

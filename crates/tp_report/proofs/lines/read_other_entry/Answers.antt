@@ -1,5 +1,5 @@
 use Rattle.tp_lines.specs.Answers.{EntryLines}
-use Rattle.tp_report.proofs.EndedFacts.{ahead_read}
+use Rattle.line_grammar.proofs.EndedFacts.{ahead_read}
 use Rattle.tp_report.proofs.Places.{entry_part}
 use Rattle.tp_report.proofs.lines.read_other_entry.Goals as goal
 

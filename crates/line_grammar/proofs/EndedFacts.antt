@@ -4,13 +4,12 @@ use Rattle.std.proofs.lemmas.List.{append_assoc, length-append, take-append-drop
 use Rattle.std.proofs.Math.Seq.{take-append_seam}
 use Rattle.line_grammar.specs.Language.{AnyOf, Begins, Stops, Reaches, IsReadTo, IsStuck}
 use Rattle.line_grammar.specs.Parts.{IsPair, Pairs, Opens, IsPart, IsTail}
-use Rattle.line_grammar.specs.Traces.{EndedLine, IsAhead}
+use Rattle.line_grammar.specs.Traces.{Ended, EndedLine, IsAhead}
 use Rattle.line_grammar.specs.Words.{Word}
 use Rattle.line_grammar.proofs.Cuts.{Cut, cut, further, nearer, same}
 use Rattle.line_grammar.proofs.Pairs.{pairs_read, pairs_stuck_first, pairs_stuck_second, one_then}
 use Rattle.line_grammar.proofs.Readings.{read_renamed, stuck_renamed}
 use Rattle.line_grammar.proofs.WordFacts.{word_stuck}
-use Rattle.tp_report.specs.Readings.{Ended}
 
 -- the line feed
 abbrev Feed : ℕ → List ℕ → Type 0
