@@ -2,6 +2,8 @@
 
 #![tactic(auto)]
 
+pub mod lines;
+
 use tp_base::answers::Outcome;
 use tp_base::calls::Call;
 

@@ -181,7 +181,7 @@ pub(crate) fn read_call(text: &[u8]) -> Result<(Call, usize), usize>
 }
 
 /// Reads an actor.
-pub(crate) fn read_who(text: &[u8]) -> Result<(Who, usize), usize>
+pub fn read_who(text: &[u8]) -> Result<(Who, usize), usize>
     ensures { IsRead WhoTexts text.now result }
 {
     match behind(b'w', text) {
