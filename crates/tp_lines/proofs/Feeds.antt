@@ -51,7 +51,7 @@ parts_feedless (p ∷ parts) (f ∷ fields) h =
 row_feedless : {V : Type 0} (table : Field) (row_of : V → Word × List Part) (v : V) (t : List ℕ) → RowTexts table row_of v t → Feedless t
 row_feedless table row_of v t a = subst Feedless (sym a.split) (parts_feedless (parts_of (row_of v)) (table ∷ []) a.in_range)
 
-who_feedless : (who : Who) → IsWhoInRange who → Feedless (text_of_who who)
+pub who_feedless : (who : Who) → IsWhoInRange who → Feedless (text_of_who who)
 who_feedless (Client n) h = decimal_lacks 10 (omega arith) n (omega (arith, h.1))
 who_feedless (Worker n) h = decimal_lacks 10 (omega arith) n (omega (arith, h.1))
 

@@ -1,0 +1,3 @@
+pub mod Libraries
+pub mod Lines
+pub mod Shelves
