@@ -1,6 +1,8 @@
 # The examples of the documents, run by the program. What an example looks like:
 #
 # - a table that begins with `| Call | Prints |`: its rows are one trace, with the answers;
+# - a table that begins with `| Line | Comes to |`: its rows are one trace with libraries, and what each line comes to, the
+#   lines of that with `; ` between them;
 # - a table that begins with `| Line | Column |`: each row is a bad line of a trace by itself;
 # - a block marked `console`: commands behind `$ `, each with what a terminal shows of it, standard
 #   output and standard error;
@@ -34,6 +36,13 @@ plays() {
     local rows=$2
     input=$(cut -f 1 <<<"$rows")$'\n'
     try "$1" 0 "$(cut -f 2 <<<"$rows")"$'\n' '' "$program" trace
+}
+
+# The same with libraries.
+plays_libraries() {
+    local rows=$2
+    input=$(cut -f 1 <<<"$rows")$'\n'
+    try "$1" 0 "$(cut -f 2 <<<"$rows" | sed 's/; /\n/g')"$'\n' '' "$program" libraries
 }
 
 # The rows of each table of a page whose header begins so, cells 1 and 2 without their quotes, with a
@@ -127,13 +136,14 @@ leads_somewhere() {
 
 # The tables of a page are the examples that it names.
 tables_are() {
-    local page=$1
-    shift
-    diff <(tables_of "$here/$page" '| Call | Prints |' | sed -n '/^--$/d;s/\t.*//p') <(cd "$here/examples" && cat "$@")
+    local page=$1 header=$2
+    shift 2
+    diff <(tables_of "$here/$page" "$header" | sed -n '/^--$/d;s/\t.*//p') <(cd "$here/examples" && cat "$@")
 }
-try 'the tables of the README are its examples' 0 '' '' tables_are README.md shutdown.trace pools.trace
-try 'the tables of docs/MACHINE.md are its examples' 0 '' '' tables_are docs/MACHINE.md kind-work.trace kind-timer.trace kind-wait.trace kind-io.trace kind-pool.trace kind-group.trace kind-callback.trace kind-kernel.trace kind-actors.trace kind-environment.trace
-try 'the tables of docs/GUIDE.md are its examples' 0 '' '' tables_are docs/GUIDE.md guide-quiet.trace guide-disassociated.trace guide-late-submit.trace guide-half-mended.trace guide-mended.trace
+try 'the tables of the README are its examples' 0 '' '' tables_are README.md '| Call | Prints |' shutdown.trace pools.trace
+try 'the tables of docs/MACHINE.md are its examples' 0 '' '' tables_are docs/MACHINE.md '| Call | Prints |' kind-work.trace kind-timer.trace kind-wait.trace kind-io.trace kind-pool.trace kind-group.trace kind-callback.trace kind-kernel.trace kind-actors.trace kind-environment.trace
+try 'the table of libraries is its example' 0 '' '' tables_are docs/MACHINE.md '| Line | Comes to |' plugin.libraries
+try 'the tables of docs/GUIDE.md are its examples' 0 '' '' tables_are docs/GUIDE.md '| Call | Prints |' guide-quiet.trace guide-disassociated.trace guide-late-submit.trace guide-half-mended.trace guide-mended.trace
 
 # The script of the README is that of its example, without the comments.
 script_is() { diff <(tables_of "$here/README.md" '| Script | In a Windows program |' | sed '/^--$/d;s/\t.*//') <(sed '/^#/d' "$here/examples/shutdown.script"); }
@@ -151,6 +161,7 @@ stands_there() {
 for file in "$here"/README.md "$here/docs"/*.md "$here/windows/README.md" "$here/crates"/*/README.md; do
     page=${file#"$here"/}
     each_part plays "$page, table" < <(tables_of "$file" '| Call | Prints |')
+    each_part plays_libraries "$page, libraries" < <(tables_of "$file" '| Line | Comes to |')
     each_part bad_lines "$page, bad lines" < <(tables_of "$file" '| Line | Column |')
     each_part session "$page, console" < <(blocks_of "$file" console)
     each_part is_legal "$page, history" < <(blocks_of "$file" history)

@@ -55,7 +55,7 @@ try 'help fits 80 columns' 0 '' '' too_wide
 
 # --- Calls
 lists() { "$tpool" calls | awk '/^  / { lines++; words[$1] } END { for (word in words) calls++; print lines, calls }'; }
-try 'the calls' 0 $'47 38\n' '' lists
+try 'the calls' 0 $'50 41\n' '' lists
 try 'a call by its word' 0 $'~### `submit`: SubmitThreadpoolWork\n*' '' "$tpool" calls submit
 for name in SubmitThreadpoolWork submitthreadpoolwork; do
     try "a call by its function, $name" 0 "$("$tpool" calls submit)"$'\n' '' "$tpool" calls "$name"
@@ -67,7 +67,8 @@ try 'the second of two functions' 0 $'~### `create-lock`: *' '' "$tpool" calls I
 try 'a function by the name of its wide characters' 0 "$("$tpool" calls CreateEvent)"$'\n' '' "$tpool" calls CreateEventW
 # What is no call: `first_words NAME` are those that are said of it.
 first_words() { "$tpool" calls "$1" | head -n 1 | cut -c 1-31; }
-try 'what is not built' 0 $'Not built yet: **Environments**\n' '' first_words SetThreadpoolCallbackLibrary
+try 'what is not built' 0 $'Not built yet: **The pool before\n' '' first_words QueueUserWorkItem
+try 'a function of libraries' 0 $'### `free-on-return`: FreeLibra\n' '' first_words FreeLibraryWhenCallbackReturns
 try 'what is left out' 0 $'Left out: **Waits and locks tha\n' '' first_words AcquireSRWLockShared
 try 'an operation of scripts' 0 $'In a script: `release LOCK`: ReleaseLock of the name\'s kind\n' '' "$tpool" calls release
 try 'what begins a section of a script' 0 $'~In a script: A section begins with *' '' "$tpool" calls routine
