@@ -1,2 +1,5 @@
+pub mod Beside
 pub mod Libraries
+pub mod Shelved
 pub mod Shelves
+pub mod Tallies

@@ -2,6 +2,11 @@
 
 #![tactic(auto)]
 
+mod actors;
+mod counts;
+mod shelf;
+mod tally;
+
 use tp_base::answers::Outcome;
 use tp_base::calls::Call;
 

@@ -1,0 +1,99 @@
+//! What is known of who makes calls.
+
+ghost use Rattle.std.specs.Prelude.{◌≡◌, ◌+◌, ◌-◌, ◌^◌, ◌<◌, ◌≤◌, ℕ, is_some, length, option_map, Some, None, IfOk};
+ghost use Rattle.tp_library.specs.Beside.{has_finished, is_there, opening_actors, run_of, with_finished, with_run, Acting};
+
+use std::alloc::{AllocError, Global};
+use std::marker::Model;
+use tp_base::ids::{ObjectId, Who};
+
+#[derive(Drop)]
+pub(crate) struct Actors {
+    // By client, from 1 on: whether it has finished.
+    finished: Vec<bool>,
+    // By worker, from 1 on: the callback that it runs, and its object.
+    runs: Vec<Option<(u64, u32)>>,
+}
+
+impl Model for Actors {
+    ghost use Rattle.tp_library.specs.Beside.{Acting};
+
+    ghost Value = { Acting };
+
+    ghost view = { λ a. record { finished = a.finished.items; runs = a.runs.items } };
+}
+
+impl Actors {
+    /// So many clients that haven't finished, and so many workers that run nothing.
+    pub(crate) fn open(alloc: Global, clients: u32, workers: u32) -> Result<Actors, AllocError>
+        ensures { IfOk result (λ made. made ≡ opening_actors clients workers) }
+    {
+        Ok(Actors {
+            finished: vec![in alloc; false; clients as usize]?,
+            runs: vec![in alloc; None; workers as usize]?,
+        })
+    }
+
+    /// Whether there is such an actor.
+    pub(crate) fn is_there(&self, who: Who) -> bool
+        ensures { result ≡ is_there self.now who }
+    {
+        match who {
+            Who::Client(number) => number != 0 && number as usize <= self.finished.len(),
+            Who::Worker(number) => number != 0 && number as usize <= self.runs.len(),
+        }
+    }
+
+    /// Whether the actor is a client that has finished.
+    pub(crate) fn has_finished(&self, who: Who) -> bool
+        ensures { result ≡ has_finished self.now who }
+    {
+        match who {
+            Who::Client(number) => {
+                number != 0
+                    && self.finished.get(number as usize - 1).copied().unwrap_or(false)
+            }
+            Who::Worker(_) => false,
+        }
+    }
+
+    /// The callback that an actor runs and its object, if it runs one.
+    pub(crate) fn run(&self, who: Who) -> Option<(u64, ObjectId)>
+        ensures { option_map (λ run. (run.0, run.1.0)) result ≡ run_of self.now who }
+    {
+        match who {
+            Who::Client(_) => None,
+            Who::Worker(number) => match self.runs.get((number as usize).saturating_sub(1)) {
+                Some(Some((callback, object))) => Some((*callback, ObjectId(*object))),
+                _ => None,
+            },
+        }
+    }
+
+    /// A client makes no further call.
+    pub(crate) fn finish(&mut self, client: u32)
+        requires least { 1 ≤ client }
+        requires most { client ≤ length self.old.finished }
+        ensures { self.new ≡ with_finished self.old client }
+    {
+        self.finished[client as usize - 1] = true;
+    }
+
+    /// A worker runs a callback of an object.
+    pub(crate) fn begin(&mut self, worker: u32, callback: u64, object: ObjectId)
+        requires least { 1 ≤ worker }
+        requires most { worker ≤ length self.old.runs }
+        ensures { self.new ≡ with_run self.old worker (Some (callback, object.0)) }
+    {
+        self.runs[worker as usize - 1] = Some((callback, object.0));
+    }
+
+    /// A worker runs nothing.
+    pub(crate) fn end(&mut self, worker: u32)
+        requires least { 1 ≤ worker }
+        requires most { worker ≤ length self.old.runs }
+        ensures { self.new ≡ with_run self.old worker None }
+    {
+        self.runs[worker as usize - 1] = None;
+    }
+}
