@@ -1,5 +1,5 @@
 -- What is kept beside a machine so that no step has to look through its world.
-use Rattle.std.specs.Prelude.{ℕ, ◌+◌, ◌-◌, ◌≡◌, ◌<◌, ◌≤◌, Bool, false, List, [], ◌∷◌, ◌++◌, length, map, replicate, slice_index_or, slice_set, get_or, Option, None, Some, is_some}
+use Rattle.std.specs.Prelude.{ℕ, ◌+◌, ◌-◌, ◌≡◌, ◌<◌, ◌≤◌, Bool, true, false, List, [], ◌∷◌, ◌++◌, length, map, replicate, slice_index_or, slice_set, get_or, Option, None, Some, is_some}
 use Rattle.std.specs.Option.{option_map_or, unwrap_or}
 use Rattle.tp_base.specs.declared.ids.Who.{Who}
 use Rattle.tp_base.specs.declared.ids.Who.TheVariants.{Client, Worker}
@@ -57,11 +57,13 @@ abbrev pub run_of : Acting → Who → Option (ℕ × ℕ)
 run_of a (Client number) = None
 run_of a (Worker number) = slice_index_or a.runs (number - 1) None
 
-abbrev pub with_finished : Acting → ℕ → Acting
-with_finished a client = record a { finished = slice_set a.finished (client - 1) Bool.true }
+abbrev pub with_finished : Acting → Who → Acting
+with_finished a (Client number) = record a { finished = slice_set a.finished (number - 1) true }
+with_finished a (Worker number) = a
 
-abbrev pub with_run : Acting → ℕ → Option (ℕ × ℕ) → Acting
-with_run a worker run = record a { runs = slice_set a.runs (worker - 1) run }
+abbrev pub with_run : Acting → Who → Option (ℕ × ℕ) → Acting
+with_run a (Client number) run = a
+with_run a (Worker number) run = record a { runs = slice_set a.runs (number - 1) run }
 
 -- ---- counts
 

@@ -1,7 +1,10 @@
 pub mod Beside
 pub mod Counted
+pub mod Effecting
+pub mod Kept
 pub mod Laws
 pub mod Libraries
+pub mod Seen
 pub mod Shelved
 pub mod Shelves
 pub mod Tallies

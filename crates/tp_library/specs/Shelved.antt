@@ -9,9 +9,9 @@ abbrev pub IsBefore : (ℕ × ℕ) → (ℕ × ℕ) → Type 0
 IsBefore a b = a.0 < b.0
 
 -- no library is loaded too often, what is noted are libraries, and callbacks stand by rising number
-pub record IsShelved (loads of_object : List ℕ) (of_simple : List (ℕ × ℕ)) (slots : List ℕ) : Type 0 where
+pub record IsShelved (loads of_object : List ℕ) (of_simple : List (ℕ × ℕ)) (slotted : List ℕ) : Type 0 where
   pub most : (library : ℕ) → at loads library ≤ LOAD_LIMIT
   pub objects : (k : ℕ) → at of_object k ≤ LIBRARY_LIMIT
   pub simple : All (λ (made : ℕ × ℕ). made.1 ≤ LIBRARY_LIMIT) of_simple
   pub rising : AllPairs IsBefore of_simple
-  pub slots : (k : ℕ) → at slots k ≤ LIBRARY_LIMIT
+  pub slots : (k : ℕ) → at slotted k ≤ LIBRARY_LIMIT

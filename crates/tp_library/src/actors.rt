@@ -51,7 +51,11 @@ impl Actors {
         match who {
             Who::Client(number) => {
                 number != 0
-                    && self.finished.get(number as usize - 1).copied().unwrap_or(false)
+                    && self
+                        .finished
+                        .get(number as usize - 1)
+                        .copied()
+                        .unwrap_or(false)
             }
             Who::Worker(_) => false,
         }
@@ -71,29 +75,39 @@ impl Actors {
     }
 
     /// A client makes no further call.
-    pub(crate) fn finish(&mut self, client: u32)
-        requires least { 1 ≤ client }
-        requires most { client ≤ length self.old.finished }
-        ensures { self.new ≡ with_finished self.old client }
+    pub(crate) fn finish(&mut self, who: Who)
+        ensures { self.new ≡ with_finished self.old who }
     {
-        self.finished[client as usize - 1] = true;
+        if let Who::Client(number) = who {
+            let place = (number as usize).saturating_sub(1);
+            if place < self.finished.len() {
+                self.finished[place] = true;
+            }
+        }
     }
 
     /// A worker runs a callback of an object.
-    pub(crate) fn begin(&mut self, worker: u32, callback: u64, object: ObjectId)
-        requires least { 1 ≤ worker }
-        requires most { worker ≤ length self.old.runs }
-        ensures { self.new ≡ with_run self.old worker (Some (callback, object.0)) }
+    pub(crate) fn begin(&mut self, who: Who, callback: u64, object: ObjectId)
+        ensures { self.new ≡ with_run self.old who (Some (callback, object.0)) }
     {
-        self.runs[worker as usize - 1] = Some((callback, object.0));
+        self.set_run(who, Some((callback, object.0)));
     }
 
     /// A worker runs nothing.
-    pub(crate) fn end(&mut self, worker: u32)
-        requires least { 1 ≤ worker }
-        requires most { worker ≤ length self.old.runs }
-        ensures { self.new ≡ with_run self.old worker None }
+    pub(crate) fn end(&mut self, who: Who)
+        ensures { self.new ≡ with_run self.old who None }
     {
-        self.runs[worker as usize - 1] = None;
+        self.set_run(who, None);
+    }
+
+    fn set_run(&mut self, who: Who, run: Option<(u64, u32)>)
+        ensures { self.new ≡ with_run self.old who run }
+    {
+        if let Who::Worker(number) = who {
+            let place = (number as usize).saturating_sub(1);
+            if place < self.runs.len() {
+                self.runs[place] = run;
+            }
+        }
     }
 }

@@ -51,12 +51,28 @@ impl Counts {
         })
     }
 
-    /// By how much a library is held, but for its loads.
-    pub(crate) fn held(&self, library: u32) -> u64
+    /// How many objects of a library aren't released.
+    pub(crate) fn owned(&self, library: u32) -> u64
         requires { library ≤ LIBRARY_LIMIT }
-        ensures { result ≡ at self.now.owned library + at self.now.left library + at self.now.running library }
+        ensures { result ≡ at self.now.owned library }
     {
-        u64::from(self.owned.at(library)) + u64::from(self.left.at(library)) + u64::from(self.running.at(library))
+        self.owned.at(library)
+    }
+
+    /// How many callbacks of a library may still run.
+    pub(crate) fn left(&self, library: u32) -> u64
+        requires { library ≤ LIBRARY_LIMIT }
+        ensures { result ≡ at self.now.left library }
+    {
+        self.left.at(library)
+    }
+
+    /// How many callbacks of a library run.
+    pub(crate) fn running(&self, library: u32) -> u64
+        requires { library ≤ LIBRARY_LIMIT }
+        ensures { result ≡ at self.now.running library }
+    {
+        self.running.at(library)
     }
 
     /// An object was made, in a group and of a library.
@@ -64,8 +80,8 @@ impl Counts {
         requires library { library ≤ LIBRARY_LIMIT }
         requires group { group.0 < length self.old.own }
         requires room { length self.old.groups < self.old.room }
-        requires owned { at self.old.owned library < 2 ^ 32 - 1 }
-        requires own { at (row_of self.old.own group.0) library < 2 ^ 32 - 1 }
+        requires owned { at self.old.owned library < 2 ^ 64 - 1 }
+        requires own { at (row_of self.old.own group.0) library < 2 ^ 64 - 1 }
         ensures { self.new ≡ with_object self.old group.0 library }
     {
         self.owned.raise(library);
@@ -99,14 +115,14 @@ impl Counts {
     /// A callback of a library may run.
     pub(crate) fn add_left(&mut self, library: u32)
         requires library { library ≤ LIBRARY_LIMIT }
-        requires fits { at self.old.left library < 2 ^ 32 - 1 }
+        requires fits { at self.old.left library < 2 ^ 64 - 1 }
         ensures { self.new ≡ with_left self.old library }
     {
         self.left.raise(library);
     }
 
     /// So many callbacks of a library won't run.
-    pub(crate) fn drop_left(&mut self, library: u32, count: u32)
+    pub(crate) fn drop_left(&mut self, library: u32, count: u64)
         requires { library ≤ LIBRARY_LIMIT }
         ensures { self.new ≡ without_left self.old library count }
     {
@@ -123,7 +139,7 @@ impl Counts {
     /// A callback of a library is taken.
     pub(crate) fn take(&mut self, library: u32)
         requires library { library ≤ LIBRARY_LIMIT }
-        requires fits { at self.old.running library < 2 ^ 32 - 1 }
+        requires fits { at self.old.running library < 2 ^ 64 - 1 }
         ensures { self.new ≡ with_running (without_left self.old library 1) library }
     {
         self.left.lower(library, 1);

@@ -3,10 +3,14 @@
 #![tactic(auto)]
 
 mod actors;
+mod beside;
+mod book;
 mod counts;
 mod shelf;
 mod tally;
+mod told;
 
+pub use book::LibraryBook;
 use tp_base::answers::Outcome;
 use tp_base::calls::Call;
 

@@ -38,7 +38,12 @@ impl Model for Shelf {
 
 impl Shelf {
     /// Nothing was loaded or made.
-    pub(crate) fn open(alloc: Global, workers: u32, objects: u32, simple: u32) -> Result<Shelf, AllocError>
+    pub(crate) fn open(
+        alloc: Global,
+        workers: u32,
+        objects: u32,
+        simple: u32,
+    ) -> Result<Shelf, AllocError>
         ensures { IfOk result (λ made. made ≡ record { shelf = record { loads = none_held; of_object = []; of_simple = []; slots = replicate workers 0 }; objects = objects; simple = simple }) }
     {
         Ok(Shelf {
@@ -50,7 +55,7 @@ impl Shelf {
     }
 
     /// How often a library is loaded.
-    pub(crate) fn load(&self, library: u32) -> u32
+    pub(crate) fn load(&self, library: u32) -> u64
         requires { library ≤ LIBRARY_LIMIT }
         ensures value { result ≡ load self.now.shelf library }
         ensures most { result ≤ LOAD_LIMIT }
@@ -58,7 +63,7 @@ impl Shelf {
         self.loads.at(library)
     }
 
-    pub(crate) fn set_load(&mut self, library: u32, loads: u32)
+    pub(crate) fn set_load(&mut self, library: u32, loads: u64)
         requires library { library ≤ LIBRARY_LIMIT }
         requires most { loads ≤ LOAD_LIMIT }
         ensures { self.new ≡ record self.old { shelf = with_load self.old.shelf library loads } }
@@ -73,7 +78,11 @@ impl Shelf {
     {
         match who {
             Who::Client(_) => 0,
-            Who::Worker(number) => self.slots.get((number as usize).saturating_sub(1)).copied().unwrap_or(0),
+            Who::Worker(number) => self
+                .slots
+                .get((number as usize).saturating_sub(1))
+                .copied()
+                .unwrap_or(0),
         }
     }
 
@@ -129,7 +138,10 @@ impl Shelf {
         if object.0 == 0 {
             return 0;
         }
-        self.of_object.get(object.0 as usize - 1).copied().unwrap_or(0)
+        self.of_object
+            .get(object.0 as usize - 1)
+            .copied()
+            .unwrap_or(0)
     }
 
     // The library of a simple callback, or 0.
@@ -137,7 +149,10 @@ impl Shelf {
         ensures value { result ≡ library_of_simple self.now.shelf callback }
         ensures most { result ≤ LIBRARY_LIMIT }
     {
-        match self.of_simple.binary_search_by_key(&callback, |made| made.0) {
+        match self
+            .of_simple
+            .binary_search_by_key(&callback, |made| made.0)
+        {
             Ok(place) => self.of_simple[place].1,
             Err(_) => 0,
         }

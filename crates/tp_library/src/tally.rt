@@ -10,7 +10,7 @@ use std::marker::Model;
 /// A number for each library, and one for none.
 #[derive(Drop)]
 pub(crate) struct Tally {
-    numbers: Vec<u32>,
+    numbers: Vec<u64>,
 }
 
 impl Model for Tally {
@@ -29,19 +29,19 @@ impl Tally {
     pub(crate) fn zero(alloc: Global) -> Result<Tally, AllocError>
         ensures { IfOk result (λ tally. tally ≡ replicate (LIBRARY_LIMIT + 1) 0) }
     {
-        let numbers = vec![in alloc; 0_u32; LIBRARY_LIMIT as usize + 1]?;
+        let numbers = vec![in alloc; 0_u64; LIBRARY_LIMIT as usize + 1]?;
         Ok(Tally { numbers })
     }
 
     /// That of a library.
-    pub(crate) fn at(&self, library: u32) -> u32
+    pub(crate) fn at(&self, library: u32) -> u64
         requires { library ≤ LIBRARY_LIMIT }
         ensures { result ≡ at self.now library }
     {
         self.numbers[library as usize]
     }
 
-    pub(crate) fn set(&mut self, library: u32, number: u32)
+    pub(crate) fn set(&mut self, library: u32, number: u64)
         requires { library ≤ LIBRARY_LIMIT }
         ensures { self.new ≡ slice_set self.old library number }
     {
@@ -51,7 +51,7 @@ impl Tally {
     /// One more.
     pub(crate) fn raise(&mut self, library: u32)
         requires library { library ≤ LIBRARY_LIMIT }
-        requires fits { at self.old library < 2 ^ 32 - 1 }
+        requires fits { at self.old library < 2 ^ 64 - 1 }
         ensures { self.new ≡ raised self.old library }
     {
         let number = self.at(library);
@@ -59,7 +59,7 @@ impl Tally {
     }
 
     /// So many less, and not below 0.
-    pub(crate) fn lower(&mut self, library: u32, count: u32)
+    pub(crate) fn lower(&mut self, library: u32, count: u64)
         requires { library ≤ LIBRARY_LIMIT }
         ensures { self.new ≡ lowered self.old library count }
     {
@@ -71,8 +71,8 @@ impl Tally {
     pub(crate) fn take_off(&mut self, other: &Tally)
         ensures { (library : ℕ) → library ≤ LIBRARY_LIMIT → at self.new library ≡ at self.old library - at other.now library }
     {
-        for library in 0..LIBRARY_LIMIT + 1 {
-            self.lower(library, other.at(library));
+        for (number, less) in self.numbers.iter_mut().zip(other.numbers.iter()) {
+            *number = number.saturating_sub(*less);
         }
     }
 
