@@ -1,2 +1,4 @@
 pub mod Effects
 pub mod Examples
+pub mod Shelving
+pub mod Stepping

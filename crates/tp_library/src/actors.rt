@@ -74,6 +74,19 @@ impl Actors {
         }
     }
 
+    /// Whether an actor runs a callback.
+    pub(crate) fn is_running(&self, who: Who) -> bool
+        ensures { result ≡ is_some (run_of self.now who) }
+    {
+        match who {
+            Who::Client(_) => false,
+            Who::Worker(number) => match self.runs.get((number as usize).saturating_sub(1)) {
+                Some(run) => run.is_some(),
+                None => false,
+            },
+        }
+    }
+
     /// A client makes no further call.
     pub(crate) fn finish(&mut self, who: Who)
         ensures { self.new ≡ with_finished self.old who }

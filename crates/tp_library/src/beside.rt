@@ -132,7 +132,7 @@ impl Beside {
         if let Some(refusal) = self.refused_actor(who) {
             return LibAnswer::Refused(refusal);
         }
-        if self.actors.run(who).is_none() {
+        if !self.actors.is_running(who) {
             return LibAnswer::Refused(LibRefusal::NotRunning);
         }
         if self.shelf.slot(who) != 0 {

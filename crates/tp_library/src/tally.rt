@@ -71,8 +71,9 @@ impl Tally {
     pub(crate) fn take_off(&mut self, other: &Tally)
         ensures { (library : ℕ) → library ≤ LIBRARY_LIMIT → at self.new library ≡ at self.old library - at other.now library }
     {
-        for (number, less) in self.numbers.iter_mut().zip(other.numbers.iter()) {
-            *number = number.saturating_sub(*less);
+        let less = other.numbers.as_slice();
+        for library in 0..self.numbers.len() {
+            self.numbers[library] = self.numbers[library].saturating_sub(less[library]);
         }
     }
 
