@@ -1,2 +1,3 @@
 pub mod Effects
 pub mod Examples
+pub mod Telling
