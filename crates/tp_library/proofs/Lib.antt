@@ -1,4 +1,5 @@
 pub mod Counting
 pub mod Effects
 pub mod Examples
+pub mod Moving
 pub mod Telling
