@@ -2,6 +2,7 @@ pub mod Changing
 pub mod Counting
 pub mod Effects
 pub mod Examples
+pub mod Growing
 pub mod Moving
 pub mod Staying
 pub mod Telling
