@@ -4,5 +4,6 @@ pub mod Effects
 pub mod Examples
 pub mod Growing
 pub mod Moving
+pub mod News
 pub mod Staying
 pub mod Telling
