@@ -1,3 +1,4 @@
+pub mod Answering
 pub mod Changing
 pub mod Counting
 pub mod Effects
