@@ -6,5 +6,6 @@ pub mod Examples
 pub mod Growing
 pub mod Moving
 pub mod News
+pub mod Shelving
 pub mod Staying
 pub mod Telling
