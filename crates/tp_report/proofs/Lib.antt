@@ -20,4 +20,3 @@ pub mod Tallies
 pub mod Telling
 pub mod Traced
 pub mod Unanswered
-pub mod Walks
