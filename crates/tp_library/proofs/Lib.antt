@@ -1,3 +1,15 @@
+pub mod Answering
+pub mod Changing
+pub mod Counting
+pub mod Effects
 pub mod Examples
+pub mod Growing
+pub mod Halving
 pub mod LineFacts
 pub mod LinePart
+pub mod Moving
+pub mod News
+pub mod Shelving
+pub mod Staying
+pub mod Stepping
+pub mod Telling

@@ -1,3 +1,11 @@
+pub mod Beside
+pub mod Counted
+pub mod Effecting
+pub mod Kept
+pub mod Laws
 pub mod Libraries
 pub mod Lines
+pub mod Seen
+pub mod Shelved
 pub mod Shelves
+pub mod Tallies

@@ -2,8 +2,16 @@
 
 #![tactic(auto)]
 
+mod actors;
+mod beside;
+mod book;
+mod counts;
 pub mod lines;
+mod shelf;
+mod tally;
+mod told;
 
+pub use book::LibraryBook;
 use tp_base::answers::Outcome;
 use tp_base::calls::Call;
 

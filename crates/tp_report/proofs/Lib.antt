@@ -19,4 +19,3 @@ pub mod Tallies
 pub mod Telling
 pub mod Traced
 pub mod Unanswered
-pub mod Walks

@@ -20,7 +20,7 @@ use Rattle.tp_model.proofs.Lists.{filter_agree}
 use Rattle.tp_model.proofs.Once.{AgreesAfter, agrees_on, is_cancelled as is_dropped}
 use Rattle.tp_model.proofs.Sound.{opening_sound}
 use Rattle.tp_report.specs.Summaries.{IsNoneLost, is_cancelled, totals_of}
-use Rattle.tp_report.proofs.Walks.{AreRising, rows_rise}
+use Rattle.recorded.proofs.Walks.{AreRising, rows_rise}
 
 record Holds (history : List Entry) (w : World) : Type 0 where
   sound : IsSound (next_number_in w) w

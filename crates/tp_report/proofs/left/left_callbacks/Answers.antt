@@ -5,7 +5,7 @@ use Rattle.recorded.specs.Recordings.{world_behind}
 use Rattle.tp_model.specs.Laws.Once.{left}
 use Rattle.tp_model.specs.Over.{row_of}
 use Rattle.tp_report.proofs.NoneLost.{left_rise}
-use Rattle.tp_report.proofs.Walks.{IsWalked, walk_begins, walk_next, walk_ends}
+use Rattle.recorded.proofs.Walks.{IsWalked, walk_begins, walk_next, walk_ends}
 use Rattle.tp_report.proofs.left.left_callbacks.Goals as goal
 
 pub loop-row-init : goal.loop-row-init

@@ -3,7 +3,7 @@ use Rattle.std.specs.Prelude.{map}
 use Rattle.recorded.specs.Recordings.{world_behind}
 use Rattle.tp_model.specs.Laws.Once.{left}
 use Rattle.tp_model.specs.Over.{row_of}
-use Rattle.tp_report.proofs.Walks.{IsWalked}
+use Rattle.recorded.proofs.Walks.{IsWalked}
 use Rattle.tp_report.proofs.left.left_callbacks.Given as goal
 
 abbrev pub invariant-loop-row : goal.invariant-loop-row
