@@ -1,9 +1,9 @@
 -- Lines, and the line feed behind each.
-use Rattle.std.proofs.Common.{◌≡◌, ℕ, ◌+◌, ◌-◌, List, ◌∷◌, ◌++◌, length, drop, sym, ap, ◌∙◌, subst, IsTrue, arith}
-use Rattle.std.proofs.lemmas.List.{length-append}
+use Rattle.std.proofs.Common.{◌≡◌, ℕ, ◌+◌, ◌-◌, List, [], ◌∷◌, ◌++◌, length, drop, refl, sym, ap, ◌∙◌, subst, IsTrue, arith}
+use Rattle.std.proofs.lemmas.List.{append_assoc, length-append}
 use Rattle.std.proofs.Math.Seq.{drop-append-add}
 use Rattle.line_grammar.specs.Language.{IsFront}
-use Rattle.line_grammar.specs.Traces.{IsAhead}
+use Rattle.line_grammar.specs.Traces.{trace_text, IsAhead}
 use Rattle.line_grammar.specs.Words.{lacks}
 use Rattle.line_grammar.proofs.WordFacts.{lacks_apart}
 
@@ -30,3 +30,9 @@ pub front_ahead : {V : Type 0} (W : V → List ℕ → Type 0) (bytes : List ℕ
 front_ahead W bytes value rest more a e =
     let split : bytes ≡ a.front ++ 10 ∷ more = a.split ∙ ap (λ l. a.front ++ l) e in
     line_ahead W bytes a.front more value (length bytes - length more) a.text_of split (omega (arith, ap length split, length-append a.front (10 ∷ more)))
+
+-- the lines of two lists
+pub trace_text-append : (lines more : List (List ℕ)) → trace_text (lines ++ more) ≡ trace_text lines ++ trace_text more
+trace_text-append [] more = refl
+trace_text-append (line ∷ lines) more =
+    ap (λ t. line ++ 10 ∷ t) (trace_text-append lines more) ∙ sym (append_assoc line (10 ∷ trace_text lines) (trace_text more))

@@ -9,6 +9,7 @@ pub mod LineFacts
 pub mod LinePart
 pub mod Moving
 pub mod News
+pub mod Printing
 pub mod Shelving
 pub mod Staying
 pub mod Stepping

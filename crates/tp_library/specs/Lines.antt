@@ -104,10 +104,13 @@ refusal_text LibraryNotLoaded = codes "library-not-loaded"
 refusal_text NoLoadLeft = codes "no-load-left"
 refusal_text LoadLimit = codes "load-limit"
 
+abbrev pub refusal_line : LibRefusal → List ℕ
+refusal_line refusal = codes "refused " ++ refusal_text refusal
+
 abbrev pub answer_text : LibAnswer → List ℕ
 answer_text answer.Done = codes "ok"
 answer_text (answer.Pool told) = text_of_outcome told
-answer_text (answer.Refused refusal) = codes "refused " ++ refusal_text refusal
+answer_text (answer.Refused refusal) = refusal_line refusal
 
 abbrev pub unloaded_text : ℕ → List ℕ
 unloaded_text library = codes "unloaded l" ++ decimal library

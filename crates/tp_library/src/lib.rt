@@ -6,6 +6,7 @@ mod actors;
 mod beside;
 mod book;
 mod counts;
+mod layer;
 pub mod lines;
 mod shelf;
 mod tally;

@@ -5,6 +5,7 @@ use Rattle.std.proofs.lemmas.List.{map-append}
 use Rattle.std.proofs.lemmas.List.Elements.{All-cons, All-head, All-nil, All-tail}
 use Rattle.std.specs.Prelude.{All, Some, decimal, fold, unwrap_or}
 use Rattle.line_grammar.specs.Traces.{trace_text}
+use Rattle.line_grammar.proofs.TraceFacts.{trace_text-append}
 use Rattle.recorded.specs.Recordings.{Recording}
 use Rattle.tp_base.specs.declared.answers.Answer.{Answer}
 use Rattle.tp_base.specs.declared.answers.Answer.TheVariants.{Advanced}
@@ -20,11 +21,6 @@ use Rattle.tp_report.specs.Moments.{clock_by, moment_after, moment_of}
 
 pub take_more : {X : Type 0} (xs : List X) (i : ℕ) (d : X) → i < length xs → take (i + 1) xs ≡ take i xs ++ get_or xs i d ∷ []
 take_more xs i d within = let more : i + 1 ≡ suc i = omega arith in ap (λ n. take n xs) more ∙ take-suc xs i d within
-
-pub trace_text-append : (lines more : List (List ℕ)) → trace_text (lines ++ more) ≡ trace_text lines ++ trace_text more
-trace_text-append [] more = refl
-trace_text-append (line ∷ lines) more =
-    ap (λ t. line ++ 10 ∷ t) (trace_text-append lines more) ∙ sym (append_assoc line (10 ∷ trace_text lines) (trace_text more))
 
 -- a line more
 pub line_next : (lines : List (List ℕ)) (line before after : List ℕ) → before ≡ trace_text lines → after ≡ before ++ (line ++ 10 ∷ []) → after ≡ trace_text (lines ++ line ∷ [])

@@ -7,7 +7,7 @@ use Rattle.tp_base.specs.declared.ids.ObjectId.{ObjectId}
 use Rattle.tp_model.specs.Over.{row_of}
 use Rattle.tp_model.specs.declared.Left.{Left}
 use Rattle.tp_report.specs.Summaries.{left_line}
-use Rattle.tp_report.proofs.Telling.{trace_text-append}
+use Rattle.line_grammar.proofs.TraceFacts.{trace_text-append}
 use Rattle.tp_report.proofs.summary.append_left.Goals as goal
 
 -- the lines of one row more
