@@ -10,7 +10,9 @@ use Rattle.tp_lines.specs.Answers.{text_of_outcome}
 use Rattle.tp_lines.specs.Calls.{FitsCall, IsWhoInRange, row_of}
 use Rattle.tp_lines.specs.Parts.{row_text}
 use Rattle.tp_lines.specs.Words.{text_of_who}
-use Rattle.tp_library.specs.Libraries.{may_have_library, IsLibrary, Told}
+use Rattle.recorded.specs.ProgramLimits.{program_limits}
+use Rattle.tp_base.specs.declared.ids.Who.TheVariants.{Client, Worker}
+use Rattle.tp_library.specs.Libraries.{may_have_library, opening, play_at, IsLibrary, Told}
 use Rattle.tp_library.specs.declared.LibAnswer.{LibAnswer}
 use Rattle.tp_library.specs.declared.LibAnswer.TheVariants as answer
 use Rattle.tp_library.specs.declared.LibRefusal.{LibRefusal}
@@ -121,3 +123,12 @@ lines_of_told told = answer_text told.0 ∷ map unloaded_text told.1
 
 abbrev pub output_of : List Told → List ℕ
 output_of all = trace_text (flat_map lines_of_told all)
+
+-- what lines come to on a new machine of the program with so many clients and workers, and room for so many entries
+abbrev pub lines_come_to : ℕ → ℕ → ℕ → List (Who × LibCall) → List ℕ
+lines_come_to clients workers capacity calls = output_of (play_at (opening (program_limits clients workers) capacity) calls)
+
+-- the client of a line, or 0
+abbrev pub client_of : (Who × LibCall) → ℕ
+client_of (Client number, call) = number
+client_of (Worker number, call) = 0

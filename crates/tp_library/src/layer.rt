@@ -48,7 +48,10 @@ fn print_unloaded<B: Recorded>(
     for number in 0..LIBRARY_LIMIT {
         let library = LibraryId(number + 1);
         if book.was_unloaded(library) {
-            out.number(b"unloaded l", u64::from(library.0))?;
+            match out.number(b"unloaded l", u64::from(library.0)) {
+                Ok(()) => {}
+                Err(error) => return Err(error),
+            }
         }
     }
     Ok(())

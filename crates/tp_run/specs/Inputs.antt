@@ -1,13 +1,18 @@
 -- What a command makes of its input.
 use Rattle.std.specs.Prelude.{◌≡◌, ℕ, ◌≤◌, Bool, true, false, List, [], Option, None, Some, is_some}
+use Rattle.layers.specs.Playing.{output_of as layer_output}
+use Rattle.line_grammar.specs.Language.{AnyOf}
+use Rattle.line_grammar.specs.Lines.{AreLines}
 use Rattle.line_grammar.specs.Traces.{IsTraceFault}
 use Rattle.script_generator.specs.Scripts.{generated}
 use Rattle.tp_base.specs.declared.calls.Call.{Call}
 use Rattle.tp_base.specs.declared.ids.Who.{Who}
 use Rattle.tp_edge.specs.Taken.{AreAll}
 use Rattle.tp_lines.specs.Calls.{IsLine}
+use Rattle.tp_library.specs.Lines.{client_of, lines_come_to, LibLines}
+use Rattle.tp_library.specs.declared.LibCall.{LibCall}
 use Rattle.tp_run.specs.declared.command.Command.{Command}
-use Rattle.tp_run.specs.declared.command.Command.TheVariants.{Trace, History, Check, Migrate, Port, Gen, Run, Big}
+use Rattle.tp_run.specs.declared.command.Command.TheVariants.{Trace, History, Libraries, Check, Migrate, Port, Gen, Run, Big}
 use Rattle.tp_run.specs.declared.played.Layout.{Layout}
 use Rattle.tp_run.specs.declared.status.Ending.{Ending}
 use Rattle.tp_run.specs.declared.status.Ending.TheVariants.{Fine, NotLegal}
@@ -74,6 +79,7 @@ short_layout json = record { history = false; json = json }
 abbrev pub IsPlayable : Command → Type 0
 IsPlayable (Trace machine) = IsMachineSize machine
 IsPlayable (History machine) = IsMachineSize machine
+IsPlayable (Libraries machine) = IsMachineSize machine
 IsPlayable Check = Unit {0}
 IsPlayable Migrate = Unit {0}
 IsPlayable Port = Unit {0}
@@ -81,11 +87,17 @@ IsPlayable (Gen number) = Unit {0}
 IsPlayable (Run threads seed machine json) = (1 ≤ threads) × (is_some seed ≡ true → threads ≡ 1) × IsMachineSize machine
 IsPlayable (Big number machine json) = IsMachineSize machine
 
+-- what the lines of a trace with libraries come to on a machine of this size that has made no step, with as many clients as
+-- they name
+abbrev pub libraries_output : MachineSize → List (Who × LibCall) → List ℕ
+libraries_output machine calls = layer_output client_of lines_come_to machine.workers machine.events calls
+
 -- whether a command has an input, which is what the source has
 abbrev pub reads : Option Command → Bool
 reads None = false
 reads (Some (Trace machine)) = true
 reads (Some (History machine)) = true
+reads (Some (Libraries machine)) = true
 reads (Some Check) = true
 reads (Some Migrate) = true
 reads (Some Port) = true
@@ -114,6 +126,7 @@ abbrev pub Gives : Option Command → List ℕ → List ℕ → Ending → Type 
 Gives None bytes output ending = ⊥
 Gives (Some (Trace machine)) bytes output ending = (calls : List (Who × Call)) × IsTraceOf bytes calls × (output ≡ output_of machine calls) × (ending ≡ Fine)
 Gives (Some (History machine)) bytes output ending = (calls : List (Who × Call)) × IsTraceOf bytes calls × (output ≡ history_output_of machine calls) × (ending ≡ Fine)
+Gives (Some (Libraries machine)) bytes output ending = (calls : List (Who × LibCall)) × AreLines LibLines calls bytes × (output ≡ libraries_output machine calls) × (ending ≡ Fine)
 Gives (Some Check) bytes output ending = IsJudged bytes output ending verdict_written
 Gives (Some Migrate) bytes output ending = IsJudged bytes output ending migration_written
 Gives (Some Port) bytes output ending = IsPortedOf bytes output ending
@@ -133,6 +146,7 @@ abbrev pub IsInGrammar : Option Command → List ℕ → Type 0
 IsInGrammar None bytes = ⊥
 IsInGrammar (Some (Trace machine)) bytes = (calls : List (Who × Call)) × IsTraceOf bytes calls
 IsInGrammar (Some (History machine)) bytes = (calls : List (Who × Call)) × IsTraceOf bytes calls
+IsInGrammar (Some (Libraries machine)) bytes = (calls : List (Who × LibCall)) × AreLines LibLines calls bytes
 IsInGrammar (Some Migrate) bytes = (header : Header) × (lines : List HistoryLine) × IsHistory bytes header lines
 IsInGrammar (Some Port) bytes = (devices : List (List Operation)) × IsPortText bytes devices
 IsInGrammar (Some Check) bytes = (header : Header) × (lines : List HistoryLine) × IsHistory bytes header lines
@@ -145,6 +159,7 @@ abbrev pub IsFaultyAt : Option Command → List ℕ → ℕ → ℕ → Type 0
 IsFaultyAt None bytes line column = ⊥
 IsFaultyAt (Some (Trace machine)) bytes line column = IsTraceFault IsLine bytes line column
 IsFaultyAt (Some (History machine)) bytes line column = IsTraceFault IsLine bytes line column
+IsFaultyAt (Some (Libraries machine)) bytes line column = IsTraceFault (AnyOf LibLines) bytes line column
 IsFaultyAt (Some Check) bytes line column = IsHistoryFault bytes line column
 IsFaultyAt (Some Migrate) bytes line column = IsHistoryFault bytes line column
 IsFaultyAt (Some Port) bytes line column = IsPortFault bytes line column

@@ -21,6 +21,11 @@ pub enum Command {
     History {
         machine: MachineSize,
     },
+    /// Plays a trace with libraries on a machine of this size, and writes what each line comes to, and which libraries it
+    /// let go.
+    Libraries {
+        machine: MachineSize,
+    },
     /// Reads a history, and writes whether it is legal.
     Check,
     /// Reads a history, and writes it in format 2 if it is legal, or else what `Check` writes.
@@ -97,6 +102,7 @@ impl Command {
         match self {
             Command::Trace { .. }
             | Command::History { .. }
+            | Command::Libraries { .. }
             | Command::Check
             | Command::Migrate
             | Command::Port
@@ -111,6 +117,7 @@ impl Command {
 pub enum Name {
     Trace,
     History,
+    Libraries,
     Check,
     Migrate,
     Port,
@@ -151,6 +158,7 @@ fn command_said(texts: &Texts) -> Option<Command>
     match name {
         Name::Trace => without_number(texts.number, Command::Trace { machine }),
         Name::History => without_number(texts.number, Command::History { machine }),
+        Name::Libraries => without_number(texts.number, Command::Libraries { machine }),
         Name::Check => without_number(texts.number, Command::Check),
         Name::Migrate => without_number(texts.number, Command::Migrate),
         Name::Port => without_number(texts.number, Command::Port),
@@ -186,6 +194,8 @@ fn name_in(word: &str) -> Option<Name>
         Name::Trace
     } else if word == "history" {
         Name::History
+    } else if word == "libraries" {
+        Name::Libraries
     } else if word == "check" {
         Name::Check
     } else if word == "migrate" {

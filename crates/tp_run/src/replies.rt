@@ -19,6 +19,7 @@ use script_generator::{generate, generated_is_script};
 use std::alloc::{AllocError, Global};
 use std::sync::Wait;
 use std::thread::Threads;
+use tp_library::play_libraries;
 use tp_port::PortGate;
 use tp_report::{MachineSize, Verdict, check, history, migrate, print_verdict, trace};
 use tp_script::{ScriptFault, one_script_a_text, parse_script};
@@ -68,6 +69,13 @@ pub fn reply<B: Recorded, G: Gate>(
         }
         Command::History { machine } => {
             let text = history::<B>(alloc, bytes, machine)?;
+            Ok(Output {
+                text,
+                ending: Ending::Fine,
+            })
+        }
+        Command::Libraries { machine } => {
+            let text = play_libraries::<B>(alloc, machine.workers, machine.events, bytes)?;
             Ok(Output {
                 text,
                 ending: Ending::Fine,
