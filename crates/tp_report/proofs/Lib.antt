@@ -18,5 +18,4 @@ pub mod Summed
 pub mod Tallies
 pub mod Telling
 pub mod Traced
-pub mod Unanswered
 pub mod Walks
