@@ -1,7 +1,9 @@
 pub mod Cuts
 pub mod EndedFacts
+pub mod LineLists
 pub mod NumberFacts
 pub mod Pairs
 pub mod Readings
 pub mod TraceFacts
+pub mod Unanswered
 pub mod WordFacts

@@ -13,7 +13,8 @@
 //! - `behind` takes one byte off, and `size_before` finds a separator.
 //!
 //! The fault of a text is the longest front that it shares with a text of the language (`IsFault`); that of
-//! many lines is the first fault of one (`IsTraceFault`). `proofs` has the laws by which readers join.
+//! many lines is the first fault of one (`IsTraceFault`), and a `TextFault` tells where it is. `proofs` has
+//! the laws by which readers join.
 //!
 //! ```text
 //! read_number(b"12 3", 0, 65_535)              // Ok((12, 2)): the value, and the size of its text
@@ -24,5 +25,6 @@
 
 #![tactic(auto)]
 
+pub mod faults;
 pub mod numbers;
 pub mod words;

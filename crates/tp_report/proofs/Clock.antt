@@ -65,11 +65,11 @@ use Rattle.tp_model.proofs.Entries.{Accepts, Entered, Refuses, entered, entry_le
 use Rattle.tp_model.proofs.Firing.{signal_now, with_arming}
 use Rattle.tp_model.proofs.Performing.{returning_now}
 use Rattle.tp_model.proofs.Sound.{opening_sound}
-use Rattle.tp_report.specs.Faults.{IsOrNoMemory}
+use Rattle.line_grammar.specs.Faults.{IsOrNoMemory}
 use Rattle.tp_report.specs.Histories.{entries_of}
 use Rattle.tp_report.specs.Moments.{clock_by, clocks, moment_after, moment_of, moments, moments_from}
 use Rattle.tp_report.specs.Verdicts.{IfLegal, IsVerdict}
-use Rattle.tp_report.specs.declared.faults.TextFault.{TextFault}
+use Rattle.line_grammar.specs.declared.faults.TextFault.{TextFault}
 use Rattle.tp_report.specs.declared.lines.Line.{Line}
 use Rattle.tp_report.specs.declared.verdict.Verdict.{Verdict}
 use Rattle.tp_report.specs.declared.verdict.Verdict.TheVariants.{Legal, NotLegal, WrongMoment}

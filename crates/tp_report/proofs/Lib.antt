@@ -18,4 +18,3 @@ pub mod Summed
 pub mod Tallies
 pub mod Telling
 pub mod Traced
-pub mod Unanswered

@@ -6,15 +6,15 @@ use Rattle.std.proofs.lemmas.List.{length-map}
 use Rattle.std.proofs.lemmas.List.Elements.{All-cons, All-head, All-nil, All-tail}
 use Rattle.std.proofs.lemmas.Result.{err_from_is_err_and}
 use Rattle.recorded.specs.Recordings.{Recording}
-use Rattle.tp_report.specs.Faults.{IsOrNoMemory}
+use Rattle.line_grammar.specs.Faults.{IsOrNoMemory}
 use Rattle.tp_base.specs.declared.answers.Entry.{Entry}
 use Rattle.tp_model.specs.History.{IsLegal}
 use Rattle.tp_report.specs.Histories.{AreObjects, HasEntryLine, HasLine, HasText, IsHistory, entries_of, header_of, history_told, timed, timed_from}
 use Rattle.tp_report.specs.Judging.{IsJudgedOn}
 use Rattle.tp_report.specs.Moments.{moment_after, moments, moments_from}
 use Rattle.tp_report.specs.Verdicts.{AreMoments, IfLegal, IsJudged, IsVerdict, limits_of, migrated_text}
-use Rattle.tp_report.specs.declared.faults.TextFault.{TextFault}
-use Rattle.tp_report.specs.declared.faults.TextFault.TheVariants.{NoMemory, At}
+use Rattle.line_grammar.specs.declared.faults.TextFault.{TextFault}
+use Rattle.line_grammar.specs.declared.faults.TextFault.TheVariants.{NoMemory, At}
 use Rattle.tp_report.specs.declared.headers.Format.{Format}
 use Rattle.tp_report.specs.declared.headers.Format.TheVariants.{One, Two}
 use Rattle.tp_report.specs.declared.headers.Header.{Header}

@@ -9,8 +9,8 @@ use Rattle.line_grammar.specs.Traces.{Ended, trace_text}
 use Rattle.tp_report.specs.declared.headers.Format.{Format}
 use Rattle.tp_report.specs.declared.headers.Header.{Header}
 use Rattle.tp_report.specs.declared.lines.Line.{Line}
-use Rattle.tp_report.specs.declared.faults.TextFault.{TextFault}
-use Rattle.tp_report.specs.declared.faults.TextFault.TheVariants.{NoMemory, At}
+use Rattle.line_grammar.specs.declared.faults.TextFault.{TextFault}
+use Rattle.line_grammar.specs.declared.faults.TextFault.TheVariants.{NoMemory, At}
 use Rattle.tp_report.specs.declared.verdict.Verdict.{Verdict}
 use Rattle.tp_report.specs.declared.verdict.Verdict.TheVariants.{Legal, NotLegal, WrongMoment}
 use Rattle.recorded.specs.Recordings.{Recording}
@@ -20,7 +20,7 @@ use Rattle.tp_report.specs.declared.lines.Next.TheVariants.{Another, End, Fault}
 use Rattle.tp_base.specs.declared.limits.Limits.{Limits}
 use Rattle.tp_model.specs.Laws.{KeepsLaws}
 use Rattle.tp_model.proofs.Laws.{keeps_laws}
-use Rattle.tp_report.specs.Faults.{IsOrNoMemory, IsPlace}
+use Rattle.line_grammar.specs.Faults.{IsOrNoMemory, IsPlace}
 use Rattle.tp_report.specs.Judging.{AreLines, AreRest, IsBookOf, IsJudgedOn, IsJudgedTo, IsLinesFault, IsSameMachine, IsVerdictBehind, KeepsUp, len_told, lines_text}
 use Rattle.tp_report.specs.Verdicts.{IfLegal, IsJudged, IsVerdict, limits_of}
 use Rattle.line_grammar.proofs.EndedFacts.{read_first, stuck_first, reaches_line, absent_line}

@@ -1,6 +1,5 @@
 pub mod Counting
 pub mod EarlyEnds
-pub mod Faults
 pub mod Histories
 pub mod Json
 pub mod Judging

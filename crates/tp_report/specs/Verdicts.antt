@@ -13,7 +13,7 @@ use Rattle.tp_model.specs.Table.{step}
 use Rattle.tp_report.specs.Histories.{IsHistory, entries_of, history_text}
 use Rattle.tp_report.specs.Moments.{moment_of, moments}
 use Rattle.tp_report.specs.declared.headers.Header.{Header}
-use Rattle.tp_report.specs.declared.faults.TextFault.{TextFault}
+use Rattle.line_grammar.specs.declared.faults.TextFault.{TextFault}
 use Rattle.tp_report.specs.declared.lines.Line.{Line}
 use Rattle.tp_report.specs.declared.verdict.Verdict.{Verdict}
 use Rattle.tp_report.specs.declared.verdict.Verdict.TheVariants.{Legal, NotLegal, WrongMoment}

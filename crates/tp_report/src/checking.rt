@@ -4,23 +4,26 @@ ghost use Rattle.std.specs.Prelude.{◌≡◌, ◌≤◌, ◌++◌, ◌⊎◌, [
 ghost use Rattle.tp_model.specs.Laws.{KeepsLaws};
 ghost use Rattle.tp_report.specs.declared.headers.Header.{Header as FirstLine};
 ghost use Rattle.tp_report.specs.declared.lines.Line.{Line as HistoryLine};
-ghost use Rattle.tp_report.specs.Faults.{IsOrNoMemory, IsPlace};
+ghost use Rattle.line_grammar.specs.Faults.{IsOrNoMemory, IsPlace};
 ghost use Rattle.tp_report.specs.Histories.{HasHeaderLine, IsHistory, IsHistoryFault, entries_of};
 ghost use Rattle.tp_report.specs.Judging.{AreLines, IsJudgedOn, IsLinesFault, IsVerdictBehind};
 ghost use Rattle.tp_report.specs.Moments.{clocks, moments};
 ghost use Rattle.tp_report.specs.Verdicts.{IfLegal, IsJudged, IsLegalTold, IsVerdict, limits_of, migrated_text};
 
-use crate::faults::{CheckFault, fault_behind};
 use crate::headers::Header;
 use crate::lines::{Line, Next, read_header_line, read_next_line};
 use crate::moments::Stamp;
 use crate::verdict::{Verdict, judge};
 use crate::written::{Written, into_history};
+use line_grammar::faults::{TextFault, fault_behind};
 use recorded::Recorded;
 use std::alloc::{AllocError, Global};
 use tp_base::answers::{Answer, Entry, Look, Outcome};
 use tp_base::calls::Call;
 use tp_base::ids::Who;
+
+/// Why a history was not judged.
+pub type CheckFault = TextFault;
 
 /// Reads a history of either format, and says whether each answer in it is that of the machine, a `B`, and each
 /// moment the time of the clock behind its entry.

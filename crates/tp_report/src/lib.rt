@@ -33,7 +33,6 @@
 
 mod checking;
 mod counts;
-mod faults;
 mod frame;
 mod headers;
 mod json;
@@ -45,12 +44,12 @@ mod summary;
 mod verdict;
 mod written;
 
-pub use checking::{check, migrate};
+pub use checking::{CheckFault, check, migrate};
 pub use counts::{Counted, Counts};
-pub use faults::{CheckFault, TextFault};
 pub use headers::EVENT_LIMIT;
 pub use json::print_json;
 pub use left::{LeftRow, left_callbacks};
+pub use line_grammar::faults::TextFault;
 pub use playing::{MachineSize, history, trace};
 pub use summary::print_summary;
 pub use verdict::{Verdict, print_verdict};

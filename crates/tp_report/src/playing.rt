@@ -9,14 +9,14 @@ ghost use Rattle.tp_base.specs.Ranges.{IsCallInRange};
 ghost use Rattle.tp_base.specs.declared.ids.Who.{Who as Actor};
 ghost use Rattle.tp_lines.specs.Answers.{text_of_outcome};
 ghost use Rattle.tp_lines.specs.Calls.{CallLines, IsLine};
-ghost use Rattle.tp_report.specs.Faults.{IsOrNoMemory, IsPlace};
+ghost use Rattle.line_grammar.specs.Faults.{IsOrNoMemory, IsPlace};
 ghost use Rattle.tp_report.specs.Playing.{ArePlayed, AreCallsPlayed, IsPlayed, IsPlayedOf, IsPlayedTo, IsSameAgain, size_of};
 ghost use Rattle.tp_report.specs.declared.playing.MachineSize.{MachineSize as Size};
 ghost use Rattle.tp_report.specs.Traces.{client_number, IsHistoryOf, IsHistoryOutput, IsMachineSize, IsOutput, IsOutputOf, IsTraceOf};
 
-use crate::faults::{TextFault, fault_behind};
 use crate::lines::{behind_text, read_call};
 use crate::written::{Written, into_history};
+use line_grammar::faults::{TextFault, fault_behind};
 use recorded::{Recorded, program_limits};
 use std::alloc::{AllocError, Global};
 use tp_base::answers::{Look, Outcome};

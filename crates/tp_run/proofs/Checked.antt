@@ -2,12 +2,12 @@
 use Rattle.std.proofs.Common.{◌≡◌, ℕ, List, [], ◌++◌, Result, Ok, Err, refl, sym, ap, ◌∙◌, subst}
 use Rattle.std.specs.Result.{IsErrAnd}
 use Rattle.tp_report.specs.Histories.{IsHistory, IsHistoryFault}
-use Rattle.tp_report.specs.Faults.{IsOrNoMemory, IsPlace}
+use Rattle.line_grammar.specs.Faults.{IsOrNoMemory, IsPlace}
 use Rattle.tp_report.specs.Verdicts.{IfLegal, IsJudged, IsVerdict, limits_of, migrated_text, verdict_text}
 use Rattle.tp_report.specs.declared.headers.Header.{Header}
 use Rattle.tp_report.specs.declared.lines.Line.{Line}
-use Rattle.tp_report.specs.declared.faults.TextFault.{TextFault}
-use Rattle.tp_report.specs.declared.faults.TextFault.TheVariants.{NoMemory, At}
+use Rattle.line_grammar.specs.declared.faults.TextFault.{TextFault}
+use Rattle.line_grammar.specs.declared.faults.TextFault.TheVariants.{NoMemory, At}
 use Rattle.tp_report.specs.declared.verdict.Verdict.{Verdict}
 use Rattle.tp_report.specs.declared.verdict.Verdict.TheVariants.{Legal, NotLegal, WrongMoment}
 use Rattle.tp_report.proofs.Deciding.{one_verdict}

@@ -6,8 +6,8 @@ use Rattle.tp_edge.specs.declared.reading.ReadFault.{ReadFault as SourceFault}
 use Rattle.tp_edge.specs.declared.reading.ReadFault.TheVariants as source
 use Rattle.port_lines.specs.declared.faults.PortFault.{PortFault}
 use Rattle.port_lines.specs.declared.faults.PortFault.TheVariants as port
-use Rattle.tp_report.specs.declared.faults.TextFault.{TextFault}
-use Rattle.tp_report.specs.declared.faults.TextFault.TheVariants as text
+use Rattle.line_grammar.specs.declared.faults.TextFault.{TextFault}
+use Rattle.line_grammar.specs.declared.faults.TextFault.TheVariants as text
 use Rattle.tp_run.specs.Inputs.{Gives, IsDetermined, IsFaultyAt, IsInGrammar, IsScriptFaultAt, reads}
 use Rattle.tp_run.specs.Runs.{IsWithin}
 use Rattle.tp_run.specs.declared.top.TheConstants.{INPUT_LIMIT}

@@ -1,5 +1,5 @@
 use Rattle.std.proofs.Common.{◌+◌, arith, refl, subst, sym}
-use Rattle.tp_report.specs.Faults.{IsPlace}
+use Rattle.line_grammar.specs.Faults.{IsPlace}
 use Rattle.tp_report.specs.Histories.{IsHistoryFault}
 use Rattle.tp_report.specs.Judging.{IsJudgedOn}
 use Rattle.tp_report.proofs.Places.{header_place}

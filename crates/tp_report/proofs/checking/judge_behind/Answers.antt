@@ -1,10 +1,10 @@
 use Rattle.std.proofs.Common.{arith, subst, sym, ◌∙◌}
-use Rattle.tp_report.specs.Faults.{IsPlace}
+use Rattle.line_grammar.specs.Faults.{IsPlace}
 use Rattle.tp_report.specs.Judging.{IsJudgedOn, IsLinesFault}
 use Rattle.tp_report.specs.Readings.{IsNext}
 use Rattle.tp_report.proofs.Places.{next_place}
 use Rattle.tp_report.proofs.SoFar.{checked_first, checked_next, checked_all, checked_only, checked_no, checked_fault, checked_few}
-use Rattle.tp_report.proofs.Unanswered.{or_no_memory}
+use Rattle.line_grammar.proofs.Unanswered.{or_no_memory}
 use Rattle.tp_report.proofs.checking.judge_behind.Goals as goal
 
 pub loop-book-init : goal.loop-book-init

@@ -2,11 +2,11 @@ use Rattle.std.proofs.Common.{◌≡◌, ◌+◌, ◌<◌, length, arith, refl, 
 use Rattle.std.proofs.lemmas.Bool.{eqb-false, eqb-true}
 use Rattle.line_grammar.specs.Traces.{IsTraceFault}
 use Rattle.tp_lines.specs.Calls.{IsLine}
-use Rattle.tp_report.specs.Faults.{IsPlace}
+use Rattle.line_grammar.specs.Faults.{IsPlace}
 use Rattle.tp_report.specs.Playing.{IsPlayedOf, IsPlayedTo, size_of}
 use Rattle.tp_report.proofs.Traced.{played_none, played_few, played_next, played_fault, played_no, played_all, played_only}
 use Rattle.recorded.specs.Recordings.{outcome_behind}
-use Rattle.tp_report.proofs.Unanswered.{or_no_memory, no_place}
+use Rattle.line_grammar.proofs.Unanswered.{or_no_memory, no_place}
 use Rattle.tp_report.proofs.playing.play_calls.Given.{Over}
 use Rattle.tp_report.proofs.playing.play_calls.Goals as goal
 use Rattle.tp_report.proofs.playing.play_calls.Goals.{After-split_at}

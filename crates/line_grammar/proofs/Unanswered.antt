@@ -3,9 +3,9 @@ use Rattle.std.proofs.Common.{◌≡◌, ℕ, IfErr, sym, subst}
 use Rattle.std.specs.Prelude.{Result, Err}
 use Rattle.std.specs.Result.{IsErrAnd}
 use Rattle.std.proofs.lemmas.Result.{err_from_is_err_and}
-use Rattle.tp_report.specs.Faults.{IsOrNoMemory, IsPlace}
-use Rattle.tp_report.specs.declared.faults.TextFault.{TextFault}
-use Rattle.tp_report.specs.declared.faults.TextFault.TheVariants.{NoMemory}
+use Rattle.line_grammar.specs.Faults.{IsOrNoMemory, IsPlace}
+use Rattle.line_grammar.specs.declared.faults.TextFault.{TextFault}
+use Rattle.line_grammar.specs.declared.faults.TextFault.TheVariants.{NoMemory}
 
 pub or_no_memory : {T : Type 0} (P : T → Type 0) (r : Result T TextFault) → IsErrAnd r (λ fault. fault ≡ NoMemory) → IsOrNoMemory P r
 or_no_memory P r refused =

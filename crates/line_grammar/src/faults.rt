@@ -1,7 +1,7 @@
 //! Faults of texts.
 
 ghost use Rattle.std.specs.Prelude.{◌≡◌, ◌+◌, ◌<◌, ◌^◌};
-ghost use Rattle.tp_report.specs.declared.faults.TextFault.TheVariants.{At};
+ghost use Rattle.line_grammar.specs.declared.faults.TextFault.TheVariants.{At};
 
 use std::alloc::AllocError;
 
@@ -16,11 +16,8 @@ pub enum TextFault {
     At { line: u32, column: u32 },
 }
 
-/// Why a history was not judged.
-pub type CheckFault = TextFault;
-
 impl From<AllocError> for TextFault {
-    ghost use Rattle.tp_report.specs.declared.faults.TextFault.TheVariants.{NoMemory};
+    ghost use Rattle.line_grammar.specs.declared.faults.TextFault.TheVariants.{NoMemory};
 
     ghost from_gives = { λ _ fault. fault ≡ NoMemory };
 

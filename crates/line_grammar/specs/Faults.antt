@@ -1,7 +1,7 @@
 -- What is answered in place of a result.
 use Rattle.std.specs.Prelude.{ℕ, Result, Ok, Err}
-use Rattle.tp_report.specs.declared.faults.TextFault.{TextFault}
-use Rattle.tp_report.specs.declared.faults.TextFault.TheVariants.{NoMemory, At}
+use Rattle.line_grammar.specs.declared.faults.TextFault.{TextFault}
+use Rattle.line_grammar.specs.declared.faults.TextFault.TheVariants.{NoMemory, At}
 
 -- the fault is at such a line and column, or memory was refused
 abbrev pub IsPlace : (ℕ → ℕ → Type 0) → TextFault → Type 0
