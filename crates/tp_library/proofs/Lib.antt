@@ -6,6 +6,7 @@ pub mod Effects
 pub mod EffectsOf
 pub mod Examples
 pub mod Growing
+pub mod Holding
 pub mod Loaded
 pub mod Moving
 pub mod News
