@@ -5,6 +5,7 @@ pub mod Counting
 pub mod Effects
 pub mod EffectsOf
 pub mod Examples
+pub mod Grouping
 pub mod Growing
 pub mod Holding
 pub mod Loaded
