@@ -1,12 +1,17 @@
+pub mod Acting
 pub mod Answering
 pub mod Changing
 pub mod Counting
 pub mod Effects
+pub mod EffectsOf
 pub mod Examples
+pub mod Grouping
 pub mod Growing
 pub mod Halving
+pub mod Holding
 pub mod LineFacts
 pub mod LinePart
+pub mod Loaded
 pub mod Moving
 pub mod News
 pub mod Printing
