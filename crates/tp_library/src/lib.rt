@@ -13,6 +13,7 @@ mod tally;
 mod told;
 
 pub use book::LibraryBook;
+pub use layer::play_libraries;
 use tp_base::answers::Outcome;
 use tp_base::calls::Call;
 
