@@ -7,36 +7,31 @@ use Rattle.line_grammar.specs.Lines.{AreLines, AreLinesTo}
 use Rattle.line_grammar.specs.Parts.{IsPart}
 use Rattle.line_grammar.specs.Traces.{Ended, IsTraceFault}
 use Rattle.line_grammar.proofs.LineLists.{lines_count, lines_fault, lines_no, lines_only, lines_push}
+use Rattle.tp_base.specs.declared.ids.Who.{Who}
+use Rattle.tp_base.specs.declared.ids.Who.TheVariants.{Client, Worker}
+use Rattle.tp_lines.specs.Calls.{client_number, IsWhoInRange}
 use Rattle.layers.specs.declared.playing.Played.{Played}
-use Rattle.layers.specs.Playing.{AreLinesPlayed, ArePlayed, IsPlayedTo}
+use Rattle.layers.specs.Playing.{ArePlayed, IsPlayedTo}
 
-clients_push : {M : Type 0} (client : M → ℕ) (made : List M) (value : M) (least : ℕ)
-    → fold (λ greatest (one : M). max greatest (client one)) least (made ++ value ∷ []) ≡ max (fold (λ greatest (one : M). max greatest (client one)) least made) (client value)
-clients_push client [] value least = refl
-clients_push client (one ∷ made) value least = clients_push client made value (max least (client one))
+clients_push : {M : Type 0} (who : M → Who) (made : List M) (value : M) (least : ℕ)
+    → fold (λ greatest (one : M). max greatest (client_number (who one))) least (made ++ value ∷ []) ≡ max (fold (λ greatest (one : M). max greatest (client_number (who one))) least made) (client_number (who value))
+clients_push who [] value least = refl
+clients_push who (one ∷ made) value least = clients_push who made value (max least (client_number (who one)))
 
-module _ {M : Type 0} (W : M → List ℕ → Type 0) (client : M → ℕ) (told behind : List M → List ℕ) (bytes rest text : List ℕ) (greatest lines : ℕ) where
-  -- at the beginning, with nothing printed
-  pub played_none : behind ≡ told → text ≡ [] → rest ≡ bytes → greatest ≡ 0 → lines ≡ 0 → IsPlayedTo W client told behind bytes rest text greatest lines
-  played_none same none all zero first =
-      record {
-        made = [];
-        read = sym all;
-        counts = first;
-        goes_on = λ more. ap (λ t. t ++ behind more) none ∙ ap (λ (f : List M → List ℕ). f more) same;
-        greatest_is = zero;
-        most = omega (arith, zero);
-      }
+few : (actor : Who) → IsWhoInRange actor → client_number actor ≤ 16
+few (Client number) h = h.1
+few (Worker number) h = omega arith
 
-  module _ (p : IsPlayedTo W client told behind bytes rest text greatest lines) where
+module _ {M : Type 0} (W : M → List ℕ → Type 0) (who : M → Who) (told behind : List M → List ℕ) (bytes rest text : List ℕ) (greatest lines : ℕ) where
+  module _ (p : IsPlayedTo W who told behind bytes rest text greatest lines) where
     pub played_few : lines + length rest ≤ length bytes
     played_few = omega (arith, p.counts, lines_count W rest p.made bytes p.read)
 
     -- a line more was read and played
-    pub played_next : (after : List M → List ℕ) (value : M) (size number next : ℕ) (longer : List ℕ) → IsReadTo (Ended W) rest value size
-        → ((more : List M) → text ++ behind (value ∷ more) ≡ longer ++ after more) → number ≡ client value → number ≤ 16 → next ≡ max greatest number
-        → IsPlayedTo W client told after bytes (drop size rest) longer next (lines + 1)
-    played_next after value size number next longer read printed named few is =
+    pub played_next : (after : List M → List ℕ) (value : M) (size next : ℕ) (actor : Who) (longer : List ℕ) → IsReadTo (Ended W) rest value size
+        → ((more : List M) → text ++ behind (value ∷ more) ≡ longer ++ after more) → actor ≡ who value → IsWhoInRange actor → next ≡ max greatest (client_number actor)
+        → IsPlayedTo W who told after bytes (drop size rest) longer next (lines + 1)
+    played_next after value size next actor longer read printed named in_range is =
         let t = read.text_of in
         let first : rest ≡ t.line ++ 10 ∷ drop size rest
         = sym (take-append-drop size rest) ∙ ap (λ l. l ++ drop size rest) t.split ∙ append_assoc t.line (10 ∷ []) (drop size rest) in
@@ -45,8 +40,8 @@ module _ {M : Type 0} (W : M → List ℕ → Type 0) (client : M → ℕ) (told
           read = lines_push W rest (drop size rest) p.made value t.line bytes p.read t.is_line first;
           counts = omega (arith, p.counts, length-append p.made (value ∷ []));
           goes_on = λ more. sym (printed more) ∙ p.goes_on (value ∷ more) ∙ ap told (sym (append_assoc p.made (value ∷ []) more));
-          greatest_is = is ∙ ap₂ (λ m n. max m n) p.greatest_is named ∙ sym (clients_push client p.made value 0);
-          most = omega (arith, is, p.most, few);
+          greatest_is = is ∙ ap₂ (λ m w. max m (client_number w)) p.greatest_is named ∙ sym (clients_push who p.made value 0);
+          most = omega (arith, is, p.most, few actor in_range);
         }
 
     text_is : behind [] ≡ [] → text ≡ told p.made
@@ -55,14 +50,10 @@ module _ {M : Type 0} (W : M → List ℕ → Type 0) (client : M → ℕ) (told
     are_lines : length rest ≡ 0 → AreLines W p.made bytes
     are_lines none = subst (λ r. AreLinesTo W r p.made bytes) (nil_from_length rest none) p.read
 
-    pub played_all : (played : Played) → played.text.items ≡ text → played.clients ≡ greatest → length rest ≡ 0 → behind [] ≡ [] → AreLinesPlayed W client told bytes played
-    played_all played same count none ends =
-        record { made = p.made; are_lines = are_lines none; are_played = record { text_is = same ∙ text_is ends; clients_is = count ∙ p.greatest_is } }
-
     module _ (part : IsPart 10 W) where
-      pub played_only : (played : Played) → played.text.items ≡ text → played.clients ≡ greatest → length rest ≡ 0 → behind [] ≡ [] → (all : List M) → AreLines W all bytes → ArePlayed client told all played
+      pub played_only : (played : Played) → played.text.items ≡ text → played.clients ≡ greatest → length rest ≡ 0 → behind [] ≡ [] → (all : List M) → AreLines W all bytes → ArePlayed who told all played
       played_only played same count none ends all whole =
-          subst (λ made. ArePlayed client told made played) (lines_only W part p.made all bytes (are_lines none) whole)
+          subst (λ made. ArePlayed who told made played) (lines_only W part p.made all bytes (are_lines none) whole)
           (record { text_is = same ∙ text_is ends; clients_is = count ∙ p.greatest_is })
 
       pub played_fault : (place : ℕ) → 0 < length rest → IsStuck (Ended W) rest place → IsTraceFault (AnyOf W) bytes (lines + 1) (place + 1)

@@ -18,11 +18,14 @@
 
 ghost use Rattle.std.specs.Prelude.{◌≡◌, ℕ, ◌≤◌, List, [], ◌∷◌, ◌++◌, IfOk, OnOk};
 ghost use Rattle.line_grammar.specs.Language.{IsRead};
+ghost use Rattle.tp_base.specs.declared.ids.Who.{Who as Actor};
+ghost use Rattle.tp_lines.specs.Calls.{IsWhoInRange};
 
 mod playing;
 
 pub use playing::play;
 use std::alloc::{AllocError, Global};
+use tp_base::ids::Who;
 use tp_lines::print::Lines;
 
 /// A machine with something above it, on which lines are played. A line says an `M`.
@@ -30,8 +33,8 @@ pub trait Layer<M: Copy>: Drop {
     /// The language of its lines, without their line feeds.
     ghost lines: { M → List ℕ → Type 0 };
 
-    /// The number of the client that a line names, or 0.
-    ghost client_of: { M → ℕ };
+    /// The actor of a line.
+    ghost who_of: { M → Actor };
 
     /// What lines come to on a new machine with so many clients and workers, and room for so many entries.
     ghost comes_to: { ℕ → ℕ → ℕ → List M → List ℕ };
@@ -55,11 +58,11 @@ pub trait Layer<M: Copy>: Drop {
     fn read(text: &[u8]) -> Result<(M, usize), usize>
         ensures { IsRead lines text.now result };
 
-    /// The number of the client that a line names, at most 16, or 0.
-    fn client(made: M) -> u32
+    /// The actor of a line.
+    fn who(made: M) -> Who
         requires { (line : List ℕ) × lines made line }
-        ensures value { result ≡ client_of made }
-        ensures most { result ≤ 16 };
+        ensures value { result ≡ who_of made }
+        ensures in_range { IsWhoInRange result };
 
     /// Plays a line, and prints what it comes to. An `AllocError` comes where memory was refused for that.
     fn step(&mut self, made: M, out: &mut Lines) -> Result<(), AllocError>

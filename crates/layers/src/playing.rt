@@ -1,24 +1,26 @@
 //! Playing of the lines of a text.
 
-ghost use Rattle.std.specs.Prelude.{◌≡◌, ℕ, ◌≤◌, ◌<◌, ◌-◌, ◌^◌, List, IfErr, IfOk, length};
+ghost use Rattle.std.specs.Prelude.{◌≡◌, ℕ, ◌≤◌, ◌<◌, ◌-◌, ◌^◌, List, IfErr, IfOk, length, max};
 ghost use Rattle.line_grammar.specs.Faults.{IsOrNoMemory, IsPlace};
 ghost use Rattle.line_grammar.specs.Language.{AnyOf, IsRead};
 ghost use Rattle.line_grammar.specs.Lines.{AreLines};
 ghost use Rattle.line_grammar.specs.Parts.{IsPart};
 ghost use Rattle.line_grammar.specs.Traces.{Ended, IsTraceFault};
+ghost use Rattle.tp_lines.specs.Calls.{client_number};
 ghost use Rattle.layers.specs.Playing.{output_of, AreLinesPlayed, ArePlayed, IsPlayed};
 
 use crate::Layer;
 use line_grammar::faults::{TextFault, fault_behind};
 use line_grammar::words::behind;
 use std::alloc::Global;
+use tp_base::ids::Who;
 use tp_lines::print::Lines;
 
 /// How many bytes at the front of a text are looked at for its greatest client, before it is played.
 const LOOKED_AT: usize = 8_192;
 
 /// Plays the lines of a text in their order, and answers what they come to on a new machine with from 1 to 64 workers,
-/// and room for 16 entries or more. It has as many clients as the greatest number of one that a line names. The text has
+/// and room for 16 entries or more. It has as many clients as the greatest number of one that has a line. The text has
 /// fewer than 2^32 - 1 bytes; of the language no line stands for two values, and none goes on behind a line feed.
 ///
 /// `At` comes exactly where the bytes are no lines of the layer, and `NoMemory` where memory was refused.
@@ -33,8 +35,8 @@ pub fn play<M: Copy, L: Layer<M>>(
     requires workers_least { 1 ≤ workers }
     requires workers_most { workers ≤ 64 }
     requires capacity { 16 ≤ capacity }
-    ensures ok { IfOk result (λ text. IsPlayed L.lines (output_of L.client_of L.comes_to workers capacity) bytes.now text.items) }
-    ensures only { (made : List M) → AreLines L.lines made bytes.now → IsOrNoMemory (λ text. text.items ≡ output_of L.client_of L.comes_to workers capacity made) result }
+    ensures ok { IfOk result (λ text. IsPlayed L.lines (output_of L.who_of L.comes_to workers capacity) bytes.now text.items) }
+    ensures only { (made : List M) → AreLines L.lines made bytes.now → IsOrNoMemory (λ text. text.items ≡ output_of L.who_of L.comes_to workers capacity made) result }
     ensures err { IfErr result (λ fault. IsPlace (IsTraceFault (AnyOf L.lines) bytes.now) fault) }
 {
     let guess = guess_clients::<M, L>(bytes);
@@ -53,7 +55,7 @@ pub fn play<M: Copy, L: Layer<M>>(
 pub struct Played {
     /// What was printed.
     pub text: Vec<u8>,
-    /// The greatest number of a client that a line names, or 0.
+    /// The greatest number of a client that has a line, or 0.
     pub clients: u32,
 }
 
@@ -71,9 +73,9 @@ fn play_new<M: Copy, L: Layer<M>>(
     requires workers_least { 1 ≤ workers }
     requires workers_most { workers ≤ 64 }
     requires capacity { 16 ≤ capacity }
-    ensures ok { IfOk result (λ played. AreLinesPlayed L.lines L.client_of (L.comes_to clients workers capacity) bytes.now played) }
+    ensures ok { IfOk result (λ played. AreLinesPlayed L.lines L.who_of (L.comes_to clients workers capacity) bytes.now played) }
     ensures most { IfOk result (λ played. played.clients ≤ 16) }
-    ensures only { (made : List M) → AreLines L.lines made bytes.now → IsOrNoMemory (ArePlayed L.client_of (L.comes_to clients workers capacity) made) result }
+    ensures only { (made : List M) → AreLines L.lines made bytes.now → IsOrNoMemory (ArePlayed L.who_of (L.comes_to clients workers capacity) made) result }
     ensures err { IfErr result (λ fault. IsPlace (IsTraceFault (AnyOf L.lines) bytes.now) fault) }
 {
     let mut layer = L::open(alloc, clients, workers, capacity)?;
@@ -88,13 +90,13 @@ fn play_lines<M: Copy, L: Layer<M>>(
 ) -> Result<Played, TextFault>
     requires few { length bytes.now < 2 ^ 32 - 1 }
     requires part { IsPart 10 L.lines }
-    ensures ok { IfOk result (λ played. AreLinesPlayed L.lines L.client_of (L.told layer.old) bytes.now played) }
+    ensures ok { IfOk result (λ played. AreLinesPlayed L.lines L.who_of (L.told layer.old) bytes.now played) }
     ensures most { IfOk result (λ played. played.clients ≤ 16) }
-    ensures only { (made : List M) → AreLines L.lines made bytes.now → IsOrNoMemory (ArePlayed L.client_of (L.told layer.old) made) result }
+    ensures only { (made : List M) → AreLines L.lines made bytes.now → IsOrNoMemory (ArePlayed L.who_of (L.told layer.old) made) result }
     ensures err { IfErr result (λ fault. IsPlace (IsTraceFault (AnyOf L.lines) bytes.now) fault) }
 {
     let mut text = Lines::new(alloc);
-    let mut greatest: u32 = 0;
+    let mut greatest = 0;
     let mut lines = 0;
     let mut rest = bytes;
     while !rest.is_empty() {
@@ -102,7 +104,7 @@ fn play_lines<M: Copy, L: Layer<M>>(
             Err(place) => return Err(fault_behind(lines, place)),
             Ok((made, size)) => {
                 layer.step(made, &mut text)?;
-                greatest = greatest.max(L::client(made));
+                greatest = greater_client(greatest, L::who(made));
                 lines += 1;
                 (_, rest) = rest.split_at(size);
             }
@@ -138,10 +140,20 @@ fn guess_clients<M: Copy, L: Layer<M>>(bytes: &[u8]) -> u32
     ensures { result ≤ 16 }
 {
     let (mut rest, _) = bytes.split_at(bytes.len().min(LOOKED_AT));
-    let mut greatest: u32 = 0;
+    let mut greatest = 0;
     while let Ok((made, size)) = read_line::<M, L>(rest) {
-        greatest = greatest.max(L::client(made));
+        greatest = greater_client(greatest, L::who(made));
         (_, rest) = rest.split_at(size);
     }
     greatest
+}
+
+// The greater of a client's number and that of the actor, where it is a client.
+fn greater_client(number: u32, who: Who) -> u32
+    ensures { result ≡ max number (client_number who) }
+{
+    match who {
+        Who::Client(other) if number < other => other,
+        _ => number,
+    }
 }

@@ -68,6 +68,11 @@ abbrev pub IsWhoInRange : Who → Type 0
 IsWhoInRange (Client number) = (1 ≤ number) × (number ≤ 16)
 IsWhoInRange (Worker number) = (1 ≤ number) × (number ≤ 64)
 
+-- the number of the client, and 0 for a worker
+abbrev pub client_number : Who → ℕ
+client_number (Client number) = number
+client_number (Worker number) = 0
+
 -- a line can have the numbers and words of the call
 abbrev pub FitsCall : Call → Type 0
 FitsCall made = AreFit (field.Call ∷ []) (parts_of (row_of made))

@@ -13,11 +13,11 @@ use Rattle.tp_base.specs.declared.calls.Call.{Call}
 use Rattle.tp_base.specs.declared.ids.Who.{Who}
 use Rattle.tp_base.specs.declared.ids.Who.TheVariants.{Client, Worker}
 use Rattle.tp_lines.specs.Answers.{text_of_outcome}
-use Rattle.tp_lines.specs.Calls.{CallLines, IsLine, IsWhoInRange}
+use Rattle.tp_lines.specs.Calls.{client_number, CallLines, IsLine, IsWhoInRange}
 use Rattle.tp_model.specs.History.{play}
 use Rattle.tp_report.specs.Playing.{book_of, IsPlayed, IsPlayedOf, IsPlayedTo, IsReadTo}
 use Rattle.tp_report.specs.declared.playing.MachineSize.{MachineSize}
-use Rattle.tp_report.specs.Traces.{line_of, HasLine, IsTraceOf, answers_text, client_number}
+use Rattle.tp_report.specs.Traces.{line_of, HasLine, IsTraceOf, answers_text}
 use Rattle.tp_report.specs.declared.playing.Played.{Played}
 use Rattle.line_grammar.proofs.EndedFacts.{ahead_read, read_first, stuck_first, reaches_line, absent_line}
 use Rattle.tp_report.proofs.Places.{call_part}

@@ -1,5 +1,5 @@
 -- Traces of calls, and what they come to.
-use Rattle.std.specs.Prelude.{◌≡◌, ℕ, ◌≤◌, List, [], ◌∷◌, ◌++◌, map, fold, max, All}
+use Rattle.std.specs.Prelude.{◌≡◌, ℕ, ◌≤◌, List, map, fold, max, All}
 use Rattle.std.specs.Global.{Vec}
 use Rattle.line_grammar.specs.Traces.{trace_text}
 use Rattle.recorded.specs.ProgramLimits.{program_limits}
@@ -8,10 +8,9 @@ use Rattle.tp_base.specs.declared.answers.Entry.{Entry}
 use Rattle.tp_base.specs.declared.answers.Outcome.{Outcome}
 use Rattle.tp_base.specs.declared.calls.Call.{Call}
 use Rattle.tp_base.specs.declared.ids.Who.{Who}
-use Rattle.tp_base.specs.declared.ids.Who.TheVariants.{Client, Worker}
 use Rattle.tp_base.specs.declared.limits.Limits.{Limits}
 use Rattle.tp_lines.specs.Answers.{text_of_outcome}
-use Rattle.tp_lines.specs.Calls.{IsCallLine, line_of_call}
+use Rattle.tp_lines.specs.Calls.{client_number, IsCallLine, line_of_call}
 use Rattle.tp_model.specs.History.{play}
 use Rattle.tp_report.specs.Histories.{history_text}
 use Rattle.tp_report.specs.declared.headers.TheConstants.{EVENT_LIMIT}
@@ -39,10 +38,6 @@ pub record IsTraceOf (bytes : List ℕ) (calls : List (Who × Call)) : Type 0 wh
 -- one line for each outcome
 abbrev pub answers_text : List Outcome → List ℕ
 answers_text outcomes = trace_text (map text_of_outcome outcomes)
-
-abbrev pub client_number : Who → ℕ
-client_number (Client number) = number
-client_number (Worker number) = 0
 
 -- the greatest client number of the calls, or 0
 abbrev pub clients_in : List (Who × Call) → ℕ

@@ -8,11 +8,11 @@ ghost use Rattle.tp_base.specs.declared.calls.Call.{Call as Made};
 ghost use Rattle.tp_base.specs.Ranges.{IsCallInRange};
 ghost use Rattle.tp_base.specs.declared.ids.Who.{Who as Actor};
 ghost use Rattle.tp_lines.specs.Answers.{text_of_outcome};
-ghost use Rattle.tp_lines.specs.Calls.{CallLines, IsLine};
+ghost use Rattle.tp_lines.specs.Calls.{client_number, CallLines, IsLine};
 ghost use Rattle.line_grammar.specs.Faults.{IsOrNoMemory, IsPlace};
 ghost use Rattle.tp_report.specs.Playing.{ArePlayed, AreCallsPlayed, IsPlayed, IsPlayedOf, IsPlayedTo, IsSameAgain, size_of};
 ghost use Rattle.tp_report.specs.declared.playing.MachineSize.{MachineSize as Size};
-ghost use Rattle.tp_report.specs.Traces.{client_number, IsHistoryOf, IsHistoryOutput, IsMachineSize, IsOutput, IsOutputOf, IsTraceOf};
+ghost use Rattle.tp_report.specs.Traces.{IsHistoryOf, IsHistoryOutput, IsMachineSize, IsOutput, IsOutputOf, IsTraceOf};
 
 use crate::lines::{behind_text, read_call};
 use crate::written::{Written, into_history};

@@ -1,6 +1,6 @@
 use Rattle.std.proofs.Common.{ℕ, ◌+◌, ◌≤◌, List, length}
 use Rattle.tp_report.specs.Playing.{IsPlayedTo, IsSameAgain}
-use Rattle.tp_report.specs.Traces.{client_number}
+use Rattle.tp_lines.specs.Calls.{client_number}
 use Rattle.tp_report.specs.declared.playing.MachineSize.{MachineSize}
 use Rattle.tp_report.proofs.playing.play_again.Given as goal
 
