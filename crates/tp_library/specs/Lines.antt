@@ -11,7 +11,6 @@ use Rattle.tp_lines.specs.Calls.{FitsCall, IsWhoInRange, row_of}
 use Rattle.tp_lines.specs.Parts.{row_text}
 use Rattle.tp_lines.specs.Words.{text_of_who}
 use Rattle.recorded.specs.ProgramLimits.{program_limits}
-use Rattle.tp_base.specs.declared.ids.Who.TheVariants.{Client, Worker}
 use Rattle.tp_library.specs.Libraries.{may_have_library, opening, play_at, IsLibrary, Told}
 use Rattle.tp_library.specs.declared.LibAnswer.{LibAnswer}
 use Rattle.tp_library.specs.declared.LibAnswer.TheVariants as answer
@@ -128,7 +127,6 @@ output_of all = trace_text (flat_map lines_of_told all)
 abbrev pub lines_come_to : ℕ → ℕ → ℕ → List (Who × LibCall) → List ℕ
 lines_come_to clients workers capacity calls = output_of (play_at (opening (program_limits clients workers) capacity) calls)
 
--- the client of a line, or 0
-abbrev pub client_of : (Who × LibCall) → ℕ
-client_of (Client number, call) = number
-client_of (Worker number, call) = 0
+-- who makes the call of a line
+abbrev pub who_of : (Who × LibCall) → Who
+who_of made = made.0

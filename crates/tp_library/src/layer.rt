@@ -10,7 +10,7 @@ ghost use Rattle.line_grammar.specs.Traces.{trace_text, IsTraceFault};
 ghost use Rattle.tp_base.specs.declared.ids.Who.{Who as Actor};
 ghost use Rattle.tp_library.specs.declared.LibCall.{LibCall as Made};
 ghost use Rattle.tp_library.specs.Libraries.{play_at};
-ghost use Rattle.tp_library.specs.Lines.{answer_text, client_of, lines_come_to, output_of, refusal_line, unloaded_text, LibLines};
+ghost use Rattle.tp_library.specs.Lines.{answer_text, lines_come_to, output_of, refusal_line, unloaded_text, who_of, LibLines};
 ghost use Rattle.tp_library.specs.Seen.{was_unloaded};
 
 use crate::book::LibraryBook;
@@ -39,8 +39,8 @@ pub fn play_libraries<B: Recorded>(
     requires workers_least { 1 ≤ workers }
     requires workers_most { workers ≤ 64 }
     requires capacity { 16 ≤ capacity }
-    ensures ok { IfOk result (λ text. IsPlayed LibLines (layer_output client_of lines_come_to workers capacity) bytes.now text.items) }
-    ensures only { (calls : List (Actor × Made)) → AreLines LibLines calls bytes.now → IsOrNoMemory (λ text. text.items ≡ layer_output client_of lines_come_to workers capacity calls) result }
+    ensures ok { IfOk result (λ text. IsPlayed LibLines (layer_output who_of lines_come_to workers capacity) bytes.now text.items) }
+    ensures only { (calls : List (Actor × Made)) → AreLines LibLines calls bytes.now → IsOrNoMemory (λ text. text.items ≡ layer_output who_of lines_come_to workers capacity calls) result }
     ensures err { IfErr result (λ fault. IsPlace (IsTraceFault (AnyOf LibLines) bytes.now) fault) }
 {
     play::<(Who, LibCall), LibraryBook<B>>(alloc, workers, capacity, bytes)
@@ -94,7 +94,7 @@ fn print_unloaded<B: Recorded>(
 impl<B: Recorded> Layer<(Who, LibCall)> for LibraryBook<B> {
     ghost lines = { LibLines };
 
-    ghost client_of = { client_of };
+    ghost who_of = { who_of };
 
     ghost comes_to = { lines_come_to };
 
@@ -117,11 +117,8 @@ impl<B: Recorded> Layer<(Who, LibCall)> for LibraryBook<B> {
         read_lib_line(text)
     }
 
-    fn client(made: (Who, LibCall)) -> u32 {
-        match made.0 {
-            Who::Client(number) => number,
-            Who::Worker(_) => 0,
-        }
+    fn who(made: (Who, LibCall)) -> Who {
+        made.0
     }
 
     fn step(&mut self, made: (Who, LibCall), out: &mut Lines) -> Result<(), AllocError> {

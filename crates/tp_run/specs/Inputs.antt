@@ -9,7 +9,7 @@ use Rattle.tp_base.specs.declared.calls.Call.{Call}
 use Rattle.tp_base.specs.declared.ids.Who.{Who}
 use Rattle.tp_edge.specs.Taken.{AreAll}
 use Rattle.tp_lines.specs.Calls.{IsLine}
-use Rattle.tp_library.specs.Lines.{client_of, lines_come_to, LibLines}
+use Rattle.tp_library.specs.Lines.{lines_come_to, who_of, LibLines}
 use Rattle.tp_library.specs.declared.LibCall.{LibCall}
 use Rattle.tp_run.specs.declared.command.Command.{Command}
 use Rattle.tp_run.specs.declared.command.Command.TheVariants.{Trace, History, Libraries, Check, Migrate, Port, Gen, Run, Big}
@@ -90,7 +90,7 @@ IsPlayable (Big number machine json) = IsMachineSize machine
 -- what the lines of a trace with libraries come to on a machine of this size that has made no step, with as many clients as
 -- they name
 abbrev pub libraries_output : MachineSize → List (Who × LibCall) → List ℕ
-libraries_output machine calls = layer_output client_of lines_come_to machine.workers machine.events calls
+libraries_output machine calls = layer_output who_of lines_come_to machine.workers machine.events calls
 
 -- whether a command has an input, which is what the source has
 abbrev pub reads : Option Command → Bool
