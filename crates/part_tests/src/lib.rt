@@ -13,6 +13,8 @@ mod checks;
 #[cfg(test)]
 mod drawn_scripts;
 #[cfg(test)]
+mod echo;
+#[cfg(test)]
 mod edge;
 #[cfg(test)]
 mod environments;
