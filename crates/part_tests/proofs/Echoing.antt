@@ -1,5 +1,5 @@
 -- Lines of calls, each with its line feed, and an echo of one call more.
-use Rattle.std.proofs.Common.{◌≡◌, ℕ, List, ◌∷◌, ◌++◌, sym, ap, ◌∙◌, append_assoc}
+use Rattle.std.proofs.Common.{◌≡◌, ℕ, List, ◌++◌, sym, ap, ◌∙◌, append_assoc}
 use Rattle.line_grammar.specs.Parts.{IsPart}
 use Rattle.line_grammar.proofs.WordFacts.{lacking_part}
 use Rattle.tp_lines.specs.Calls.{CallLines}

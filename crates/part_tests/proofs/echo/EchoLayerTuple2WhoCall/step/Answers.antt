@@ -11,6 +11,6 @@ returns c =
     let line : ℕ → List ℕ = λ n. codes "clients: " ++ decimal n ++ 10 ∷ [] in
     on_ok_weaker c.number.result
     (λ other more.
-        printed_both c.args.out.now (codes "a call" ++ 10 ∷ []) (line clients) c.number.new.self (echoed clients more) c.text.new.self c.in_ok-text.ensures.ok
-        (subst (λ n. c.number.new.self ≡ c.text.new.self ++ line n) c.from.ensures other))
+    printed_both c.args.out.now (codes "a call" ++ 10 ∷ []) (line clients) c.number.new.self (echoed clients more) c.text.new.self c.in_ok-text.ensures.ok
+    (subst (λ n. c.number.new.self ≡ c.text.new.self ++ line n) c.from.ensures other))
     c.number.ensures.ok
