@@ -1,6 +1,6 @@
-//! Tests of the crates that need no machine: of `tp_lines` and what it stands on, of `layers`, of `tp_script`, of
-//! `tp_edge`, of `callback_env`, and of a heap of a million keys. They have a crate of their own, since a crate that has
-//! tests is proved again for them.
+//! Tests of the crates that need no machine: of `tp_lines` and what it stands on, of `tp_script`, of `tp_edge`, of
+//! `callback_env`, and of a heap of a million keys. They have a crate of their own, since a crate that has tests is
+//! proved again for them.
 //!
 //! What a call answers is said by its contract. A test calls public functions with memory enough, where a contract leaves
 //! want of memory open, and compares what was printed or read with what was written by hand. The parts of the engine take
@@ -12,8 +12,6 @@
 mod checks;
 #[cfg(test)]
 mod drawn_scripts;
-#[cfg(test)]
-mod echo;
 #[cfg(test)]
 mod edge;
 #[cfg(test)]
