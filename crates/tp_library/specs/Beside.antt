@@ -55,7 +55,7 @@ has_finished a (Worker number) = false
 -- the callback that an actor runs, and its object
 abbrev pub run_of : Acting → Who → Option (ℕ × ℕ)
 run_of a (Client number) = None
-run_of a (Worker number) = slice_index_or a.runs (number - 1) None
+run_of a (Worker number) = unwrap_or (numbered a.runs number) None
 
 abbrev pub with_finished : Acting → Who → Acting
 with_finished a (Client number) = record a { finished = slice_set a.finished (number - 1) true }

@@ -67,7 +67,8 @@ impl Actors {
     {
         match who {
             Who::Client(_) => None,
-            Who::Worker(number) => match self.runs.get((number as usize).saturating_sub(1)) {
+            Who::Worker(0) => None,
+            Who::Worker(number) => match self.runs.get(number as usize - 1) {
                 Some(Some((callback, object))) => Some((*callback, ObjectId(*object))),
                 _ => None,
             },
@@ -80,7 +81,8 @@ impl Actors {
     {
         match who {
             Who::Client(_) => false,
-            Who::Worker(number) => match self.runs.get((number as usize).saturating_sub(1)) {
+            Who::Worker(0) => false,
+            Who::Worker(number) => match self.runs.get(number as usize - 1) {
                 Some(run) => run.is_some(),
                 None => false,
             },
