@@ -1,6 +1,6 @@
 -- What one call that is answered makes of the objects, the clients, the workers and the callbacks of a machine.
 use Rattle.std.specs.Prelude.{◌≡◌, ℕ, ◌+◌, false, true, List, ◌++◌, length, slice_get, if◌then◌else◌, None, Some, ◌==◌}
-use Rattle.std.specs.List.{AllByRecursion, find, range_with_len}
+use Rattle.std.specs.List.{AllByRecursion, count_by, find, range_with_len}
 use Rattle.tp_base.specs.declared.answers.Answer.{Answer}
 use Rattle.tp_base.specs.declared.answers.Answer.TheVariants.{Begun, Cancelled, Closed, Closing, Made, Queued, Returned, Taken}
 use Rattle.tp_base.specs.declared.answers.Outcome.TheVariants.{Done}
@@ -155,6 +155,8 @@ pub record Moved (limits : Limits) (w : World) (who : Who) (call : Call) (answer
   pub counts : IsKept w who call answer kept
   -- the numbers that the answer tells are those of the new ones
   pub numbers : made_by (record { who = who; call = call; answer = answer }) ≡ range_with_len (length w.callbacks + 1) (length new)
+  pub new_left : (s : Shelf) (library : ℕ) → left_in s library new ≡ count_by (λ (c : CallbackRow). library_of s c == library) new
+  pub new_runs : (s : Shelf) (library : ℕ) → runs_in s library new ≡ 0
   pub rows : (place : ℕ) (c : CallbackRow) → slice_get new place ≡ Some c → IsNewAt w after place c
   pub homes : AllByRecursion (HasHome w call) new
   pub simple : IsSimple w call answer new

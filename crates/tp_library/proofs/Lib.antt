@@ -1,7 +1,9 @@
+pub mod Acting
 pub mod Answering
 pub mod Changing
 pub mod Counting
 pub mod Effects
+pub mod EffectsOf
 pub mod Examples
 pub mod Growing
 pub mod Halving
