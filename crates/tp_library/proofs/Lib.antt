@@ -1,3 +1,4 @@
+pub mod Above
 pub mod Acting
 pub mod Answering
 pub mod Changing
@@ -7,6 +8,7 @@ pub mod EffectsOf
 pub mod Examples
 pub mod Growing
 pub mod Halving
+pub mod Keeping
 pub mod Moving
 pub mod News
 pub mod Shelving

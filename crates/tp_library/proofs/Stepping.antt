@@ -14,7 +14,7 @@ use Rattle.tp_library.specs.Beside.{has_finished, is_there, run_of, Acting}
 use Rattle.tp_library.specs.Counted.{finished_in, runs_of}
 use Rattle.tp_library.specs.Kept.{refused_actor, run_in, AreActors}
 use Rattle.tp_library.specs.Libraries.{first_of, slot_of, step_at, unless_refused, with_slot}
-use Rattle.tp_library.specs.Shelves.{load, world_of, Stand}
+use Rattle.tp_library.specs.Shelves.{load, world_of, Shelf, Stand}
 use Rattle.tp_library.specs.declared.LibAnswer.{LibAnswer}
 use Rattle.tp_library.specs.declared.LibAnswer.TheVariants as answer
 use Rattle.tp_library.specs.declared.LibCall.TheVariants.{FreeOnReturn}
@@ -76,6 +76,11 @@ module _ (w : World) (a : Acting) (are : AreActors w a) where
   same_runs (Worker number) = row_runs (numbered w.workers number) ∙ sym (ap (λ o. is_some (unwrap_or o None)) (run_numbered number))
 
 -- ---- the refusals
+
+-- a slot is all that is filled
+pub slot_parts : (s : Shelf) (who : Who) (library : ℕ) → with_slot s who library ≡ record s { loads = (with_slot s who library).loads; slots = (with_slot s who library).slots }
+slot_parts s (Client number) library = refl
+slot_parts s (Worker number) library = refl
 
 -- an actor that isn't refused
 abbrev pub Acts : Acting → Who → Type 0

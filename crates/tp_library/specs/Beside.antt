@@ -89,6 +89,7 @@ without_object c object library = record c {
 -- no objects of the group are left
 pub record IsWithoutGroup (old : Counted) (group : ℕ) (new : Counted) : Type 0 where
   pub owned : (library : ℕ) → library ≤ LIBRARY_LIMIT → at new.owned library ≡ at old.owned library - at (row_of old.own group) library
+  pub many : length new.owned ≡ LIBRARY_LIMIT + 1
   pub own : new.own ≡ slice_set old.own group none_held
   pub left : new.left ≡ old.left
   pub running : new.running ≡ old.running

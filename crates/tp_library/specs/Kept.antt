@@ -51,6 +51,13 @@ pub record IsCounted (w : World) (s : Shelf) (c : Counted) : Type 0 where
   pub running : (library : ℕ) → library ≤ LIBRARY_LIMIT → at c.running library ≡ runs_in s library w.callbacks
   pub groups : c.groups ≡ groups_in w
 
+-- there is a number for each library
+pub record AreFull (c : Counted) : Type 0 where
+  pub owned : length c.owned ≡ LIBRARY_LIMIT + 1
+  pub left : length c.left ≡ LIBRARY_LIMIT + 1
+  pub running : length c.running ≡ LIBRARY_LIMIT + 1
+  pub own : (group : ℕ) → group < length c.own → length (row_of c.own group) ≡ LIBRARY_LIMIT + 1
+
 pub record AreActors (w : World) (a : Acting) : Type 0 where
   pub finished : a.finished ≡ finished_in w
   pub runs : a.runs ≡ map (run_in w) (runs_of w)
@@ -67,6 +74,7 @@ pub record IsKept (r : Recording) (b : Beside) : Type 0 where
   pub simple_few : length b.shelf.shelf.of_simple ≤ length r.history
   pub callbacks_few : length (world_behind r).callbacks ≤ 65535 * length r.history
   pub own : length b.counts.own ≡ r.limits.groups + 1
+  pub full : AreFull b.counts
   pub counts : IsCounted (world_behind r) b.shelf.shelf b.counts
   pub actors : AreActors (world_behind r) b.actors
   pub before : length b.before.items ≡ LIBRARY_LIMIT + 1
@@ -151,3 +159,8 @@ is_row_in s library row = library_at s row.0 row.1.0 == library
 -- the rows above a number that are of a library
 abbrev pub rows_in : Shelf → ℕ → ℕ → List Row → ℕ
 rows_in s library number rows = count_by (is_row_in s library) (filter (is_above number) rows)
+
+-- what is counted after an effect: all of them, where those of a group were cancelled, and else those that were made besides
+abbrev pub counted_left : Shelf → ℕ → Effect → ℕ → ℕ → List Row → List ℕ → ℕ
+counted_left s library (Closes group cancelled) first count rows tally = if nat_lt 0 cancelled then rows_in s library 0 rows else at tally library
+counted_left s library effect first count rows tally = if nat_lt 0 count then at tally library + rows_in s library (first - 1) rows else at tally library

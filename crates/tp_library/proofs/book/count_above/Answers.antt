@@ -1,0 +1,68 @@
+use Rattle.std.proofs.Common.{◌≡◌, ℕ, ◌+◌, ◌<◌, ◌≤◌, Some, None, find, refl, sym, ap, ◌∙◌, subst, arith, length}
+use Rattle.std.proofs.lemmas.List.{length-set}
+use Rattle.recorded.specs.Recordings.{world_behind}
+use Rattle.tp_model.specs.Laws.Once.{left}
+use Rattle.tp_model.specs.Over.{row_of}
+use Rattle.tp_library.specs.Beside.{with_left, Counted}
+use Rattle.tp_library.specs.Counted.{one_in}
+use Rattle.tp_library.specs.Kept.{is_above, rows_in}
+use Rattle.tp_library.specs.Tallies.{at, raised}
+use Rattle.tp_library.specs.declared.TheConstants.{LIBRARY_LIMIT}
+use Rattle.tp_library.proofs.Above.{fewer_above, left_rises, one_same, raised_at, rows_end, rows_next}
+use Rattle.tp_library.proofs.book.count_above.Goals as goal
+
+pub loop-callback-init : goal.loop-callback-init
+loop-callback-init g c = record { counted = λ k h. refl; many = c.requires.many; same = refl }
+
+pub add_left-requires-clause-fits : goal.add_left-requires-clause-fits
+add_left-requires-clause-fits g c =
+    let r = g.B.Recorded.recording c.args.book.now in
+    let l = c.loop-callback in
+    let s = c.args.shelf.now.shelf in
+    let row = row_of (c.in-Some.callback, c.in-Some.object, c.in-Some.field-0-2) in
+    let mine = c.library_at.result in
+    omega (
+      arith,
+      l.invariant.counted mine c.library_at.ensures.most,
+      c.requires.fits mine c.library_at.ensures.most,
+      rows_next s mine l.number 0 (left (world_behind r)) row (left_rises r c.requires.legal) (sym c.in-Some.ensures),
+      ap (λ n. one_in n mine) c.library_at.ensures.value,
+      one_same mine,
+    )
+
+pub loop-callback-smaller : goal.loop-callback-smaller
+loop-callback-smaller g c =
+    let r = g.B.Recorded.recording c.args.book.now in
+    let row = row_of (c.in-Some.callback, c.in-Some.object, c.in-Some.field-0-2) in
+    fewer_above c.loop-callback.number 0 (left (world_behind r)) row (left_rises r c.requires.legal) (sym c.in-Some.ensures)
+
+pub loop-callback-preserved : goal.loop-callback-preserved
+loop-callback-preserved g c =
+    let r = g.B.Recorded.recording c.args.book.now in
+    let l = c.loop-callback in
+    let s = c.args.shelf.now.shelf in
+    let row = row_of (c.in-Some.callback, c.in-Some.object, c.in-Some.field-0-2) in
+    let mine = c.library_at.result in
+    let within : mine < length l.counts.left = omega (arith, c.library_at.ensures.most, l.invariant.many) in
+    record {
+      counted = λ k h. omega (
+        arith,
+        l.invariant.counted k h,
+        rows_next s k l.number 0 (left (world_behind r)) row (left_rises r c.requires.legal) (sym c.in-Some.ensures),
+        raised_at l.counts.left mine k within,
+        ap (λ n. one_in n k) c.library_at.ensures.value,
+        ap (λ (x : Counted). at x.left k) c.add_left.ensures,
+      );
+      many = ap (λ (x : Counted). length x.left) c.add_left.ensures ∙ length-set l.counts.left mine (at l.counts.left mine + 1) ∙ l.invariant.many;
+      same = c.add_left.ensures
+          ∙ ap (λ (x : Counted). record x { left = raised l.counts.left mine }) l.invariant.same
+          ∙ ap (λ t. record c.args.counts.now { left = t }) (sym (ap (λ (x : Counted). x.left) c.add_left.ensures));
+    }
+
+pub returns-clause-left : goal.returns-clause-left
+returns-clause-left g c = λ k h.
+    let r = g.B.Recorded.recording c.args.book.now in
+    omega (arith, c.loop-callback.invariant.counted k h, rows_end c.args.shelf.now.shelf k c.loop-callback.number (left (world_behind r)) (sym c.in_default.ensures))
+
+pub returns-clause-same : goal.returns-clause-same
+returns-clause-same g c = c.loop-callback.invariant.same
