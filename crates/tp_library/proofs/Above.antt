@@ -1,5 +1,5 @@
 -- The callbacks above a number, as they are gone through.
-use Rattle.std.proofs.Common.{◌≡◌, ℕ, ◌+◌, ◌-◌, ◌==◌, ◌<◌, ◌≤◌, Bool, true, false, cond, List, [], ◌∷◌, length, nat_lt, Option, Some, None, refl, sym, ap, ◌∙◌, subst, arith, find, filter, get_or}
+use Rattle.std.proofs.Common.{◌≡◌, ℕ, ◌+◌, ◌-◌, ◌==◌, ◌<◌, ◌≤◌, Bool, true, false, cond, List, [], ◌∷◌, length, nat_lt, Option, Some, None, refl, sym, ap, ◌∙◌, subst, arith, find, filter, get_or, replicate, zero, suc}
 use Rattle.std.specs.List.{count_by}
 use Rattle.std.proofs.lemmas.Bool.Decides.{nat_tests}
 use Rattle.std.proofs.lemmas.List.{get_or-set_same, get_or-set_other}
@@ -7,8 +7,13 @@ use Rattle.tp_model.specs.History.{IsLegal}
 use Rattle.tp_model.specs.Laws.Once.{left}
 use Rattle.recorded.specs.Recordings.{world_behind, Recording}
 use Rattle.recorded.proofs.Walks.{AreRising}
+use Rattle.tp_base.specs.declared.ids.GroupId.{GroupId}
+use Rattle.tp_library.specs.Beside.{none_held}
 use Rattle.tp_library.specs.Counted.{one_in}
-use Rattle.tp_library.specs.Kept.{is_above, is_row_in, rows_in, Row}
+use Rattle.tp_library.specs.declared.told.Effect.{Effect}
+use Rattle.tp_library.specs.declared.told.Effect.TheVariants.{Closes}
+use Rattle.tp_library.specs.declared.TheConstants.{LIBRARY_LIMIT}
+use Rattle.tp_library.specs.Kept.{counted_left, is_above, is_row_in, rows_in, Row}
 use Rattle.tp_library.specs.Shelves.{library_at, Shelf}
 use Rattle.tp_library.specs.Tallies.{at, lowered, raised}
 use Rattle.tp_library.proofs.Counting.{count_cons}
@@ -110,3 +115,22 @@ lowered_at tally mine library count h =
       | false ↦ λ is. let other : library ≡ mine → ⊥ = grind (arith, nat_tests, is) in
           get_or-set_other tally mine library (at tally mine - count) 0 other ∙ omega arith
     ] refl
+
+none_at : (n k : ℕ) → at (replicate n 0) k ≡ 0
+none_at zero k = refl
+none_at (suc n) zero = refl
+none_at (suc n) (suc k) = none_at n k
+
+pub cleared_at : (library : ℕ) → at none_held library ≡ 0
+cleared_at library = none_at (LIBRARY_LIMIT + 1) library
+
+-- ---- what is counted after an effect
+
+pub closes_recounts : (s : Shelf) (library : ℕ) (group : GroupId) (cancelled first count : ℕ) (rows : List Row) (tally : List ℕ) → 0 < cancelled
+    → counted_left s library (Closes group cancelled) first count rows tally ≡ rows_in s library 0 rows
+closes_recounts s library group cancelled first count rows tally h = ap (λ b. cond b (rows_in s library 0 rows) (at tally library)) (lt_true 0 cancelled h)
+
+pub other_adds : (s : Shelf) (library : ℕ) (effect : Effect) (first count : ℕ) (rows : List Row) (tally : List ℕ) → ((group : GroupId) (cancelled : ℕ) → effect ≡ Closes group cancelled → ⊥) → 0 < count
+    → counted_left s library effect first count rows tally ≡ at tally library + rows_in s library (first - 1) rows
+other_adds s library (Closes group cancelled) first count rows tally not h = absurd (not group cancelled refl)
+other_adds s library effect first count rows tally not h = ap (λ b. cond b (at tally library + rows_in s library (first - 1) rows) (at tally library)) (lt_true 0 count h)

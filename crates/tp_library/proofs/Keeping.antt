@@ -94,7 +94,7 @@ unloaded_as r b k library h held =
 
 row_replicated : (n group : ℕ) → group < length (replicate n none_held) → length (row_of (replicate n none_held) group) ≡ LIBRARY_LIMIT + 1
 row_replicated n group h =
-    ap length (get_or-replicate n group none_held [] (omega (arith, h, length-replicate n none_held))) ∙ length-replicate (LIBRARY_LIMIT + 1) 0
+    ap length (get_or-replicate n group none_held [] (omega (arith, h, length-replicate n none_held))) ∙ length-replicate {A = ℕ} (LIBRARY_LIMIT + 1) 0
 
 at_replicated : (n group library : ℕ) → group < length (replicate n none_held) → at (row_of (replicate n none_held) group) library ≡ 0
 at_replicated n group library h =
@@ -127,9 +127,9 @@ module _ (limits : Limits) (capacity : ℕ) (in_range : AreLimitsInRange limits)
     callbacks_few = omega arith;
     own = length-replicate (limits.groups + 1) none_held;
     full = record {
-      owned = length-replicate (LIBRARY_LIMIT + 1) 0;
-      left = length-replicate (LIBRARY_LIMIT + 1) 0;
-      running = length-replicate (LIBRARY_LIMIT + 1) 0;
+      owned = length-replicate {A = ℕ} (LIBRARY_LIMIT + 1) 0;
+      left = length-replicate {A = ℕ} (LIBRARY_LIMIT + 1) 0;
+      running = length-replicate {A = ℕ} (LIBRARY_LIMIT + 1) 0;
       own = row_replicated (limits.groups + 1);
     };
     counts = record {

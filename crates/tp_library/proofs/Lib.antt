@@ -9,6 +9,7 @@ pub mod Examples
 pub mod Growing
 pub mod Halving
 pub mod Keeping
+pub mod Matching
 pub mod Moving
 pub mod News
 pub mod Shelving
