@@ -211,7 +211,7 @@ record Holds (limits : Limits) (before : List Entry) (w : World) : Type 0 where
   pub sound : IsSound (next_number_in w) w
   pub few : AreFew limits w
 
-opening_few : (limits : Limits) → AreFew limits (opening limits)
+pub opening_few : (limits : Limits) → AreFew limits (opening limits)
 opening_few limits = record { limits_same = refl; objects = omega arith; clients = length-replicate limits.clients unfinished; workers = length-replicate limits.workers unattached }
 
 keeps : (limits : Limits) → Along.IsKept (Holds limits)

@@ -6,9 +6,12 @@ pub mod Counting
 pub mod Effects
 pub mod EffectsOf
 pub mod Examples
+pub mod Grouping
 pub mod Growing
 pub mod Halving
+pub mod Holding
 pub mod Keeping
+pub mod Loaded
 pub mod Matching
 pub mod Moving
 pub mod News
