@@ -98,20 +98,20 @@ one_same library = grind (arith, nat_tests)
 one_other : (mine library : ℕ) → (mine ≡ library → ⊥) → one_in mine library ≡ 0
 one_other mine library ne = grind (arith, nat_tests, ne)
 
-pub raised_at : (tally : List ℕ) (mine library : ℕ) → mine < length tally → at (raised tally mine) library ≡ at tally library + one_in mine library
+pub raised_at : (tally : List ℕ) (mine library : ℕ) → library < length tally → at (raised tally mine) library ≡ at tally library + one_in mine library
 raised_at tally mine library h =
     elim (mine == library) as (λ b. (mine == library) ≡ b → at (raised tally mine) library ≡ at tally library + cond b 1 0) [
       | true ↦ λ is. let same : mine ≡ library = grind (arith, nat_tests, is) in
-          subst (λ l. at (raised tally mine) l ≡ at tally l + 1) same (get_or-set_same tally mine (at tally mine + 1) 0 h)
+          subst (λ l. at (raised tally mine) l ≡ at tally l + 1) same (get_or-set_same tally mine (at tally mine + 1) 0 (omega (arith, h, same)))
       | false ↦ λ is. let other : library ≡ mine → ⊥ = grind (arith, nat_tests, is) in
           get_or-set_other tally mine library (at tally mine + 1) 0 other ∙ omega arith
     ] refl
 
-pub lowered_at : (tally : List ℕ) (mine library count : ℕ) → mine < length tally → at (lowered tally mine count) library ≡ at tally library - cond (mine == library) count 0
+pub lowered_at : (tally : List ℕ) (mine library count : ℕ) → library < length tally → at (lowered tally mine count) library ≡ at tally library - cond (mine == library) count 0
 lowered_at tally mine library count h =
     elim (mine == library) as (λ b. (mine == library) ≡ b → at (lowered tally mine count) library ≡ at tally library - cond b count 0) [
       | true ↦ λ is. let same : mine ≡ library = grind (arith, nat_tests, is) in
-          subst (λ l. at (lowered tally mine count) l ≡ at tally l - count) same (get_or-set_same tally mine (at tally mine - count) 0 h)
+          subst (λ l. at (lowered tally mine count) l ≡ at tally l - count) same (get_or-set_same tally mine (at tally mine - count) 0 (omega (arith, h, same)))
       | false ↦ λ is. let other : library ≡ mine → ⊥ = grind (arith, nat_tests, is) in
           get_or-set_other tally mine library (at tally mine - count) 0 other ∙ omega arith
     ] refl

@@ -3,6 +3,7 @@ pub mod Acting
 pub mod Answering
 pub mod Changing
 pub mod Counting
+pub mod Effected
 pub mod Effects
 pub mod EffectsOf
 pub mod Examples

@@ -43,13 +43,12 @@ loop-callback-preserved g c =
     let s = c.args.shelf.now.shelf in
     let row = row_of (c.in-Some.callback, c.in-Some.object, c.in-Some.field-0-2) in
     let mine = c.library_at.result in
-    let within : mine < length l.counts.left = omega (arith, c.library_at.ensures.most, l.invariant.many) in
     record {
       counted = λ k h. omega (
         arith,
         l.invariant.counted k h,
         rows_next s k l.number 0 (left (world_behind r)) row (left_rises r c.requires.legal) (sym c.in-Some.ensures),
-        raised_at l.counts.left mine k within,
+        raised_at l.counts.left mine k (omega (arith, h, l.invariant.many)),
         ap (λ n. one_in n k) c.library_at.ensures.value,
         ap (λ (x : Counted). at x.left k) c.add_left.ensures,
       );
