@@ -23,7 +23,7 @@ use Rattle.tp_library.specs.declared.LibRefusal.TheVariants.{NoLoadLeft, NoSuch,
 
 -- ---- actors
 
-numbered_map : {A B : Type 0} (f : A → B) (xs : List A) (number : ℕ) → numbered (map f xs) number ≡ option_map f (numbered xs number)
+pub numbered_map : {A B : Type 0} (f : A → B) (xs : List A) (number : ℕ) → numbered (map f xs) number ≡ option_map f (numbered xs number)
 numbered_map {A} {B} f xs number =
     elim (number == 0) as (λ b. cond b None (slice_get (map f xs) (number - 1)) ≡ option_map f (cond b None (slice_get xs (number - 1)))) [
       | true ↦ refl
