@@ -16,6 +16,7 @@ pub mod Loaded
 pub mod Matching
 pub mod Moving
 pub mod News
+pub mod Noted
 pub mod Noting
 pub mod Shelving
 pub mod Staying

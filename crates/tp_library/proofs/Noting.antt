@@ -182,11 +182,19 @@ map_set f [] i x = refl
 map_set f (y ∷ ys) zero x = refl
 map_set f (y ∷ ys) (suc i) x = ap (λ zs. f y ∷ zs) (map_set f ys i x)
 
-module _ (w after : World) (sound : IsSound (length w.callbacks + 1) w) (keeps : (number : ℕ) (c : CallbackRow) → find (has_number number) w.callbacks ≡ Some c → IsKeptRow after number c) where
-  found_object : (v : World) (number : ℕ) (c : CallbackRow) → find (has_number number) v.callbacks ≡ Some c → object_at v number ≡ c.object.0
-  found_object v number c found = ap (λ o. option_map_or (λ (d : CallbackRow). d.object.0) o 0) found
+found_object : (v : World) (number : ℕ) (c : CallbackRow) → find (has_number number) v.callbacks ≡ Some c → object_at v number ≡ c.object.0
+found_object v number c found = ap (λ o. option_map_or (λ (d : CallbackRow). d.object.0) o 0) found
 
-  object_kept : (number : ℕ) (c : CallbackRow) → find (has_number number) w.callbacks ≡ Some c → object_at after number ≡ c.object.0
+-- the run of a worker that runs a callback
+pub run_busy : (w : World) (a : Acting) (worker : ℕ) (c : CallbackRow) → AreActors w a → numbered (runs_of w) worker ≡ Some (Some c.number) → find (has_number c.number) w.callbacks ≡ Some c
+    → run_of a (Worker worker) ≡ Some (c.number, c.object.0)
+run_busy w a worker c are busy found =
+    ap (λ xs. unwrap_or (numbered xs worker) None) are.runs
+    ∙ ap (λ o. unwrap_or o None) (numbered_map (run_in w) (runs_of w) worker ∙ ap (option_map (run_in w)) busy)
+    ∙ ap (λ o. Some (c.number, o)) (found_object w c.number c found)
+
+module _ (w after : World) (sound : IsSound (length w.callbacks + 1) w) (keeps : (number : ℕ) (c : CallbackRow) → find (has_number number) w.callbacks ≡ Some c → IsKeptRow after number c) where
+  pub object_kept : (number : ℕ) (c : CallbackRow) → find (has_number number) w.callbacks ≡ Some c → object_at after number ≡ c.object.0
   object_kept number c found =
       let k = keeps number c found in
       found_object after number k.row k.found ∙ ap (λ (o : ObjectId). o.0) k.object
@@ -218,11 +226,3 @@ module _ (w after : World) (sound : IsSound (length w.callbacks + 1) w) (keeps :
     runs = ap (λ xs. slice_set xs (number - 1) (run_in after run)) (are.runs ∙ sym runs_kept)
         ∙ sym (ap (map (run_in after)) r ∙ map_set (run_in after) (runs_of w) (number - 1) run);
   }
-
-  -- the run of a worker that runs a callback
-  pub run_busy : (a : Acting) (worker : ℕ) (c : CallbackRow) → AreActors w a → numbered (runs_of w) worker ≡ Some (Some c.number) → find (has_number c.number) w.callbacks ≡ Some c
-      → run_of a (Worker worker) ≡ Some (c.number, c.object.0)
-  run_busy a worker c are busy found =
-      ap (λ xs. unwrap_or (numbered xs worker) None) are.runs
-      ∙ ap (λ o. unwrap_or o None) (numbered_map (run_in w) (runs_of w) worker ∙ ap (option_map (run_in w)) busy)
-      ∙ ap (λ o. Some (c.number, o)) (found_object w c.number c found)
