@@ -32,10 +32,10 @@ lt_from a b h = grind (arith, nat_tests, h)
 le_from : (a b : ℕ) → nat_lt a b ≡ false → b ≤ a
 le_from a b h = grind (arith, nat_tests, h)
 
-kept_row : (number : ℕ) (row : Row) (rows : List Row) → number < row.0 → filter (is_above number) (row ∷ rows) ≡ row ∷ filter (is_above number) rows
+pub kept_row : (number : ℕ) (row : Row) (rows : List Row) → number < row.0 → filter (is_above number) (row ∷ rows) ≡ row ∷ filter (is_above number) rows
 kept_row number row rows h = ap (λ b. cond b (row ∷ filter (is_above number) rows) (filter (is_above number) rows)) (lt_true number row.0 h)
 
-left_out : (number : ℕ) (row : Row) (rows : List Row) → row.0 ≤ number → filter (is_above number) (row ∷ rows) ≡ filter (is_above number) rows
+pub left_out : (number : ℕ) (row : Row) (rows : List Row) → row.0 ≤ number → filter (is_above number) (row ∷ rows) ≡ filter (is_above number) rows
 left_out number row rows h = ap (λ b. cond b (row ∷ filter (is_above number) rows) (filter (is_above number) rows)) (lt_false number row.0 h)
 
 pub all_above : (number low : ℕ) (rows : List Row) → AreRising low rows → number ≤ low → filter (is_above number) rows ≡ rows

@@ -1,6 +1,7 @@
 pub mod Above
 pub mod Acting
 pub mod Answering
+pub mod Asking
 pub mod Changing
 pub mod Counting
 pub mod Effected
@@ -21,4 +22,5 @@ pub mod Noting
 pub mod Shelving
 pub mod Staying
 pub mod Stepping
+pub mod Summing
 pub mod Telling
