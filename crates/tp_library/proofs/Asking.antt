@@ -1,8 +1,7 @@
 -- A call of the machine, and what is kept beside it.
-use Rattle.std.proofs.Common.{◌≡◌, ℕ, ◌+◌, ◌-◌, ◌*◌, ◌<◌, ◌≤◌, ◌==◌, ◌^◌, Bool, true, false, cond, List, [], ◌∷◌, ◌++◌, length, nat_lt, Option, None, Some, refl, sym, ap, ◌∙◌, subst, arith, length-append}
+use Rattle.std.proofs.Common.{◌≡◌, ℕ, ◌+◌, ◌-◌, ◌*◌, ◌<◌, ◌≤◌, ◌==◌, ◌^◌, Bool, true, false, cond, List, [], ◌∷◌, ◌++◌, length, nat_lt, Option, None, Some, refl, sym, ap, ◌∙◌, subst, arith, length-append, slice_get, zero, suc}
 use Rattle.std.specs.Prelude.{map, All}
 use Rattle.std.specs.List.{zip, range_with_len, AllByRecursion}
-use Rattle.std.proofs.lemmas.List.{length-map}
 use Rattle.std.proofs.lemmas.List.Elements.{All-from_recursion}
 use Rattle.std.proofs.lemmas.List.Sums.{count_by-le-length}
 use Rattle.std.proofs.lemmas.List.FromFn.{length-range_with_len}
@@ -23,10 +22,14 @@ use Rattle.tp_model.specs.Support.Sound.{IsMade}
 use Rattle.tp_model.specs.Table.{plan}
 use Rattle.tp_model.specs.World.{World}
 use Rattle.tp_model.proofs.Entries.{entered, Accepts, Entered, Refuses}
+use Rattle.std.proofs.lemmas.Bool.Decides.{nat_tests}
+use Rattle.std.proofs.lemmas.Option.{slice_get_within}
+use Rattle.tp_model.proofs.Refusals.{numbered_some}
+use Rattle.tp_library.proofs.Counting.{left_appended, left_listed}
 use Rattle.tp_model.proofs.Fitting.{legal_fits}
 use Rattle.recorded.specs.Recordings.{outcome_behind, recorded, room_of, world_behind, Recording}
 use Rattle.tp_library.specs.Beside.{group_of, row_of}
-use Rattle.tp_library.specs.Counted.{left_in, members_in, objects_told, on_objects, runs_in}
+use Rattle.tp_library.specs.Counted.{is_left_in, is_member_in, is_run_in, left_in, members_in, objects_told, on_objects, runs_in}
 use Rattle.tp_library.specs.Effecting.{effect_of}
 use Rattle.tp_library.specs.Kept.{counted_left, groups_in, rows_in, CanNote, IsKept, IsNoted}
 use Rattle.tp_library.specs.Libraries.{shelf_answered}
@@ -44,7 +47,7 @@ use Rattle.tp_library.proofs.Holding.{held, Held}
 use Rattle.tp_library.proofs.Keeping.{few_callbacks, few_entries, few_objects}
 use Rattle.tp_library.proofs.Matching.{plan_matches, IsOf, Matches}
 use Rattle.tp_library.proofs.Noted.{actors_noted, cancelled_of, left_noted, owned_noted, rest_noted, running_noted}
-use Rattle.tp_library.proofs.Noting.{AreCounted, AreOwned}
+use Rattle.tp_library.proofs.Noting.{group_stands, AreCounted, AreOwned}
 use Rattle.tp_library.proofs.Summing.{above_new}
 
 -- ---- what else an effect tells
@@ -89,32 +92,99 @@ answered r b k who call a told = of_entry (entered (world_behind r) (room_of r) 
     of_entry (Accepts e) = subst (Matches call) e.plan_is (plan_matches (world_behind r) (room_of r) who call)
     of_entry (Refuses refusal same stays) = subst (IsOf call) (sym same) tt
 
-module _ (r : Recording) (b : Beside) (k : IsKept r b) (who : Who) (call : Call) (library : ℕ) (a : Answer) (told : outcome_behind r who call ≡ outcome.Done a) where
-  abbrev behind : Recording
-  behind = recorded r who call (outcome.Done a)
+-- ---- what an effect wants before it
 
-  abbrev effect : Effect
-  effect = effect_of call a
+groups_long : (os : List ObjectRow) → length (map (λ (o : ObjectRow). o.env.group.0) os) ≡ length os
+groups_long [] = refl
+groups_long (o ∷ os) = omega (arith, groups_long os)
 
-  abbrev now : Shelf
-  now = shelf_by b.shelf.shelf who (effect_of call a) library
+row_within : (n i : ℕ) (os : List ObjectRow) (row : ObjectRow) → AllByRecursion (λ (o : ObjectRow). o.env.group.0 ≤ n) os → slice_get os i ≡ Some row → row.env.group.0 ≤ n
+row_within n i [] row all at = absurd cc
+row_within n zero (o ∷ os) row all at = let same : o ≡ row = cc in subst (λ (x : ObjectRow). x.env.group.0 ≤ n) same all.0
+row_within n (suc i) (o ∷ os) row all at = row_within n i os row all.1 at
 
-  moves : Effects r who call a
-  moves = effects_of r k.legal who call a told
+few_members : (r : Recording) (b : Beside) → IsKept r b → (group library : ℕ) → members_in (world_behind r).objects b.shelf.shelf group library ≤ 65535
+few_members r b k group library =
+    let w = world_behind r in
+    omega (
+      arith,
+      count_by-le-length (is_member_in group library) (zip w.objects b.shelf.shelf.of_object),
+      length-zip w.objects b.shelf.shelf.of_object,
+      (reached r k.legal).few.objects,
+      k.limits.objects_most,
+    )
 
-  pub now_is : shelf_answered b.shelf.shelf who call library a ≡ shelf_by b.shelf.shelf who (effect_of call a) library
-  now_is = shelf_is b.shelf.shelf who call library a (answered r b k who call a told)
-
-  facts : By (world_behind r) b.shelf.shelf who (effect_of call a) library (world_behind (recorded r who call (outcome.Done a))) (shelf_by b.shelf.shelf who (effect_of call a) library) moves.kept
-  unfolding moves
-  facts =
-      let m = effects_of r k.legal who call a told in
+module _ (r : Recording) (b : Beside) (k : IsKept r b) (who : Who) (library : ℕ) (after : World) (now : Shelf) (kept : List CallbackRow) (is_library : library ≤ LIBRARY_LIMIT) (room : length r.history < r.capacity) (few : length after.objects ≤ r.limits.objects) where
+  can_note_by : (effect : Effect) → By (world_behind r) b.shelf.shelf who effect library after now kept → GroupBy (world_behind r) effect → SimpleBy (world_behind r) effect → CanNote b effect library
+  can_note_by (Makes group) by in_group simple =
       let w = world_behind r in
-      let after = world_behind (recorded r who call (outcome.Done a)) in
-      said_by w b.shelf.shelf who library after (shelf_by b.shelf.shelf who (effect_of call a) library) m.kept call a (answered r b k who call a told) (
-        subst (Held w b.shelf.shelf call library a after) now_is (held r.limits w who after b.shelf.shelf library k.shelf call a m),
-        m.counts,
-        m.clients,
-        m.workers,
-        ap (map (λ (o : ObjectRow). o.env.group.0)) m.objects ∙ groups_applied (on_objects call a) w.objects,
+      let groups = grouped r k.legal in
+      let more : length after.objects ≡ length w.objects + 1 =
+          omega (
+            arith,
+            ap length by.groups,
+            groups_long after.objects,
+            groups_long w.objects,
+            length-append (groups_in w) (group.0 ∷ []),
+          ) in
+      let in_own : group.0 < length b.counts.own = omega (arith, in_group, groups.groups, k.own) in (
+        is_library,
+        in_own,
+        omega (arith, more, few, k.shelf.objects, k.objects_fit),
+        omega (arith, more, few, ap length k.counts.groups, groups_long w.objects, k.groups_fit),
+        omega (arith, k.counts.owned library is_library, few_objects r b k library),
+        omega (arith, k.counts.own group.0 library in_own is_library, few_members r b k group.0 library),
       )
+  can_note_by (Releases object) by in_group simple =
+      let w = world_behind r in
+      let at = numbered_some w.objects object.0 by.held.row by.held.stands in
+      let home : group_of b.counts.groups object.0 ≡ by.held.row.env.group.0 = ap (λ gs. group_of gs object.0) k.counts.groups ∙ group_stands w.objects object.0 by.held.row by.held.stands in (
+        at.1,
+        omega (arith, at.1, slice_get_within w.objects (object.0 - 1) by.held.row at.0, ap length k.counts.groups, groups_long w.objects),
+        omega (arith, home, row_within (length w.groups) (object.0 - 1) w.objects by.held.row (grouped r k.legal).objects at.0, (grouped r k.legal).groups, k.own),
+      )
+  can_note_by (Closes group cancelled) by in_group simple = omega (arith, in_group.1, (grouped r k.legal).groups, k.own)
+  can_note_by (Submits callback) by in_group simple = (
+    is_library,
+    omega (arith, room, k.simple_few, k.simple_fit),
+    All-from_recursion (λ (made : ℕ × ℕ). made.0 < callback) b.shelf.shelf.of_simple
+    (subst (λ n. AllByRecursion (λ (made : ℕ × ℕ). made.0 < n) b.shelf.shelf.of_simple) (sym simple) k.shelf.simples),
+  )
+  can_note_by (Takes callback object) by in_group simple = λ l h.
+      omega (arith, k.counts.running l h, count_by-le-length (is_run_in b.shelf.shelf l) (world_behind r).callbacks, few_callbacks r b k)
+  can_note_by (Cancels object count) by in_group simple = tt
+  can_note_by Returns by in_group simple = tt
+  can_note_by Finishes by in_group simple = tt
+  can_note_by Nothing by in_group simple = tt
+
+-- ---- the callbacks that are counted
+
+left_none : (s : Shelf) (library : ℕ) (news : List CallbackRow) → length news ≡ 0 → left_in s library news ≡ 0
+left_none s library news none = omega (arith, count_by-le-length (is_left_in s library) news, none)
+
+module _ (s : Shelf) (library first count number : ℕ) (after : World) (kept news : List CallbackRow) (tally : List ℕ) (same : after.callbacks ≡ kept ++ news) (many : count ≡ length news) (begins : 0 < count → first ≡ number + 1)
+    (all : rows_in s library 0 (left after) ≡ left_in s library after.callbacks) (new : 0 < length news → rows_in s library number (left after) ≡ left_in s library news) where
+  whole : at tally library ≡ left_in s library kept → at tally library + left_in s library news ≡ left_in s library after.callbacks
+  whole is = omega (arith, is, left_appended s library kept news, ap (left_in s library) same)
+
+  counted_by : (effect : Effect) → NewsBy effect count → (cancelled_of effect ≡ 0 → at tally library ≡ left_in s library kept) → counted_left s library effect first count (left after) tally ≡ left_in s library after.callbacks
+  counted_by (Closes group cancelled) none is =
+      elim (nat_lt 0 cancelled) as (λ b. nat_lt 0 cancelled ≡ b → cond b (rows_in s library 0 (left after)) (at tally library) ≡ left_in s library after.callbacks) [
+        | true ↦ λ some. all
+        | false ↦ λ zero_is.
+            let zero : cancelled ≡ 0 = grind (arith, nat_tests, zero_is) in
+            omega (arith, whole (is zero), left_none s library news (sym many ∙ none))
+      ] refl
+  counted_by effect none is = others (is refl)
+    where
+      others : at tally library ≡ left_in s library kept → cond (nat_lt 0 count) (at tally library + rows_in s library (first - 1) (left after)) (at tally library) ≡ left_in s library after.callbacks
+      others same_kept =
+          elim (nat_lt 0 count) as (λ b. nat_lt 0 count ≡ b → cond b (at tally library + rows_in s library (first - 1) (left after)) (at tally library) ≡ left_in s library after.callbacks) [
+            | true ↦ λ some.
+                let above : 0 < count = grind (arith, nat_tests, some) in
+                let before : first - 1 ≡ number = omega (arith, begins above) in
+                omega (arith, whole same_kept, new (omega (arith, above, many)), ap (λ n. rows_in s library n (left after)) before)
+            | false ↦ λ none_is.
+                let zero : count ≡ 0 = grind (arith, nat_tests, none_is) in
+                omega (arith, whole same_kept, left_none s library news (sym many ∙ zero))
+          ] refl
