@@ -53,39 +53,39 @@ use Rattle.tp_library.proofs.Summing.{above_new}
 -- ---- what else an effect tells
 
 -- a group that is named was made
-abbrev GroupBy : World → Effect → Type 0
+abbrev pub GroupBy : World → Effect → Type 0
 GroupBy w (Makes group) = group.0 ≤ length w.groups
 GroupBy w (Closes group cancelled) = IsMade (length w.groups) group.0
 GroupBy w effect = Unit {0}
 
-group_by : (w : World) (call : Call) (a : Answer) → IsGroupMade w call a → GroupBy w (effect_of call a)
+pub group_by : (w : World) (call : Call) (a : Answer) → IsGroupMade w call a → GroupBy w (effect_of call a)
 group_by w (Create kind routine context env) (answer.Made number) made = made
 group_by w (BeginClose group cancel context) (answer.Closing covered cancelled notices) made = made
 group_by w call (answer.Returned section mutex semaphore event first count) made = tt
 group_by w call a made = tt
 
 -- a simple callback is the next one
-abbrev SimpleBy : World → Effect → Type 0
+abbrev pub SimpleBy : World → Effect → Type 0
 SimpleBy w (Submits callback) = callback ≡ length w.callbacks + 1
 SimpleBy w effect = Unit {0}
 
-simple_by : (w : World) (call : Call) (a : Answer) (new : List CallbackRow) → IsSimple w call a new → SimpleBy w (effect_of call a)
+pub simple_by : (w : World) (call : Call) (a : Answer) (new : List CallbackRow) → IsSimple w call a new → SimpleBy w (effect_of call a)
 simple_by w (SubmitSimple routine context env) (answer.Queued first count) new simple = simple.0
 simple_by w call (answer.Returned section mutex semaphore event first count) new simple = tt
 simple_by w call a new simple = tt
 
 -- a close of a group makes no callback
-abbrev NewsBy : Effect → ℕ → Type 0
+abbrev pub NewsBy : Effect → ℕ → Type 0
 NewsBy (Closes group cancelled) count = count ≡ 0
 NewsBy effect count = Unit {0}
 
-news_by : (who : Who) (call : Call) (a : Answer) (first count : ℕ) → made_by (record { who = who; call = call; answer = a }) ≡ range_with_len first count → NewsBy (effect_of call a) count
+pub news_by : (who : Who) (call : Call) (a : Answer) (first count : ℕ) → made_by (record { who = who; call = call; answer = a }) ≡ range_with_len first count → NewsBy (effect_of call a) count
 news_by who (BeginClose group cancel context) (answer.Closing covered cancelled notices) first count made = omega (arith, ap length made, length-range_with_len first count)
 news_by who call (answer.Returned section mutex semaphore event start many) first count made = tt
 news_by who call a first count made = tt
 
 -- the answer is one of the call
-answered : (r : Recording) (b : Beside) → IsKept r b → (who : Who) (call : Call) (a : Answer) → outcome_behind r who call ≡ outcome.Done a → IsOf call a
+pub answered : (r : Recording) (b : Beside) → IsKept r b → (who : Who) (call : Call) (a : Answer) → outcome_behind r who call ≡ outcome.Done a → IsOf call a
 answered r b k who call a told = of_entry (entered (world_behind r) (room_of r) (record { who = who; call = call; answer = a }) (reached r k.legal).sound told)
   where
     of_entry : Entered (world_behind r) (room_of r) (record { who = who; call = call; answer = a }) → IsOf call a
@@ -115,7 +115,7 @@ few_members r b k group library =
     )
 
 module _ (r : Recording) (b : Beside) (k : IsKept r b) (who : Who) (library : ℕ) (after : World) (now : Shelf) (kept : List CallbackRow) (is_library : library ≤ LIBRARY_LIMIT) (room : length r.history < r.capacity) (few : length after.objects ≤ r.limits.objects) where
-  can_note_by : (effect : Effect) → By (world_behind r) b.shelf.shelf who effect library after now kept → GroupBy (world_behind r) effect → SimpleBy (world_behind r) effect → CanNote b effect library
+  pub can_note_by : (effect : Effect) → By (world_behind r) b.shelf.shelf who effect library after now kept → GroupBy (world_behind r) effect → SimpleBy (world_behind r) effect → CanNote b effect library
   can_note_by (Makes group) by in_group simple =
       let w = world_behind r in
       let groups = grouped r k.legal in
@@ -167,7 +167,7 @@ module _ (s : Shelf) (library first count number : ℕ) (after : World) (kept ne
   whole : at tally library ≡ left_in s library kept → at tally library + left_in s library news ≡ left_in s library after.callbacks
   whole is = omega (arith, is, left_appended s library kept news, ap (left_in s library) same)
 
-  counted_by : (effect : Effect) → NewsBy effect count → (cancelled_of effect ≡ 0 → at tally library ≡ left_in s library kept) → counted_left s library effect first count (left after) tally ≡ left_in s library after.callbacks
+  pub counted_by : (effect : Effect) → NewsBy effect count → (cancelled_of effect ≡ 0 → at tally library ≡ left_in s library kept) → counted_left s library effect first count (left after) tally ≡ left_in s library after.callbacks
   counted_by (Closes group cancelled) none is =
       elim (nat_lt 0 cancelled) as (λ b. nat_lt 0 cancelled ≡ b → cond b (rows_in s library 0 (left after)) (at tally library) ≡ left_in s library after.callbacks) [
         | true ↦ λ some. all

@@ -1,6 +1,7 @@
 pub mod Above
 pub mod Acting
 pub mod Answering
+pub mod Asked
 pub mod Asking
 pub mod Changing
 pub mod Counting
