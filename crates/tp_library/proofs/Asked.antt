@@ -1,5 +1,5 @@
 -- A call of the machine that is answered, and what is kept beside it then.
-use Rattle.std.proofs.Common.{◌≡◌, ℕ, ◌+◌, ◌*◌, ◌<◌, ◌≤◌, ◌==◌, ◌^◌, List, [], ◌∷◌, ◌++◌, length, refl, sym, ap, ◌∙◌, subst, arith, length-append}
+use Rattle.std.proofs.Common.{Bool, Global, Vec, ◌≡◌, ℕ, ◌+◌, ◌*◌, ◌<◌, ◌≤◌, ◌==◌, ◌^◌, List, [], ◌∷◌, ◌++◌, length, refl, sym, ap, ◌∙◌, subst, arith, length-append}
 use Rattle.std.specs.Prelude.{map}
 use Rattle.std.specs.List.{count_by, range_with_len}
 use Rattle.std.proofs.lemmas.List.Sums.{count_by-le-length}
@@ -29,14 +29,14 @@ use Rattle.tp_library.specs.declared.TheConstants.{LIBRARY_LIMIT}
 use Rattle.tp_library.proofs.Above.{all_above, left_rises}
 use Rattle.tp_library.proofs.Asking.{answered, can_note_by, counted_by, group_by, news_by, simple_by}
 use Rattle.tp_library.proofs.Counting.{left_appended, left_listed, runs_appended}
-use Rattle.tp_library.proofs.Effected.{groups_applied, said_by, shelf_by, shelf_is, By}
+use Rattle.tp_library.proofs.Effected.{groups_applied, groups_by, said_by, shelf_by, shelf_is, By}
 use Rattle.tp_library.proofs.Effects.{Effects, IsNewAt, IsShelfKept}
 use Rattle.tp_library.proofs.EffectsOf.{callbacks_few, effects_of, legal_after}
 use Rattle.tp_library.proofs.Grouping.{named_group}
 use Rattle.tp_library.proofs.Holding.{held, Held}
 use Rattle.tp_library.proofs.Keeping.{few_callbacks, few_entries}
 use Rattle.tp_library.proofs.News.{range_same}
-use Rattle.tp_library.proofs.Noted.{actors_noted, cancelled_of, left_noted, owned_noted, rest_noted, running_noted}
+use Rattle.tp_library.proofs.Noted.{actors_noted, cancelled_of, left_noted, owned_noted, rest_noted, running_noted, IsRest}
 use Rattle.tp_library.proofs.Noting.{AreCounted, AreOwned}
 use Rattle.tp_library.proofs.Summing.{above_new}
 
@@ -117,3 +117,71 @@ module _ (r : Recording) (b : Beside) (k : IsKept r b) (who : Who) (call : Call)
     counted_fits in_range l h =
         subst (λ s. counted_left s l (effect_of call a) first count (left after) new.counts.left < 2 ^ 64) (sym shelf_now)
         (omega (arith, counted_now l h, few_now in_range l))
+
+    -- ---- once the callbacks were counted
+
+    module _ (is_library : library ≤ LIBRARY_LIMIT) (in_range : IsAnswerInRange a) (c : Counted) (left_is : (l : ℕ) → l ≤ LIBRARY_LIMIT → at c.left l ≡ counted_left new.shelf.shelf l (effect_of call a) first count (left after) new.counts.left) (many : length c.left ≡ LIBRARY_LIMIT + 1) (same : c ≡ record new.counts { left = c.left }) where
+      rest : IsRest b who (effect_of call a) library new
+      rest = rest_noted b who (effect_of call a) library new noted
+
+      one_longer : length behind.history ≡ length r.history + 1
+      one_longer = length-append r.history (record { who = who; call = call; answer = a } ∷ [])
+
+      owned : AreOwned after now new.counts.owned new.counts.own
+      owned =
+          owned_noted (world_behind r) b who library after now m.kept new (effect_of call a)
+          (can_note is_library)
+          facts k.counts.groups (record { many = k.full.owned; rows = k.full.own; objects = k.counts.owned; members = λ group l in_own h. k.counts.own group l in_own h }) noted
+
+      running : AreCounted b.shelf.shelf runs_in m.kept new.counts.running
+      running = running_noted (world_behind r) b who library after now m.kept new (effect_of call a) facts k.actors (record { many = k.full.running; each = k.counts.running }) noted
+
+      owned_is : c.owned ≡ new.counts.owned
+      owned_is = ap (λ (x : Counted). x.owned) same
+
+      own_is : c.own ≡ new.counts.own
+      own_is = ap (λ (x : Counted). x.own) same
+
+      running_is : c.running ≡ new.counts.running
+      running_is = ap (λ (x : Counted). x.running) same
+
+      counts_now : IsCounted after now c
+      counts_now = record {
+        owned = λ l h. ap (λ t. at t l) owned_is ∙ owned.objects l h;
+        own = λ g l in_own h. ap (λ o. at (row_of o g) l) own_is ∙ owned.members g l (omega (arith, in_own, ap length own_is)) h;
+        left = λ l h. left_is l h ∙ ap (λ s. counted_left s l (effect_of call a) first count (left after) new.counts.left) shelf_now ∙ counted_now l h;
+        running = λ l h. omega (
+          arith,
+          ap (λ t. at t l) running_is,
+          running.each l h,
+          shelf_kept.runs l,
+          runs_appended now l m.kept m.new,
+          m.new_runs now l,
+          ap (runs_in now l) m.callbacks,
+        );
+        groups = ap (λ (x : Counted). x.groups) same ∙ rest.groups ∙ ap (groups_by (effect_of call a)) k.counts.groups ∙ sym facts.groups;
+      }
+
+      pub asked_kept : IsKept behind (record { shelf = new.shelf; counts = c; actors = new.actors; before = new.before })
+      asked_kept = record {
+        legal = legal_after r k.legal who call a told;
+        limits = k.limits;
+        clients = k.clients;
+        capacity = k.capacity;
+        shelf = subst (λ s. IsShelfOf s after) (sym shelf_now) shelf_kept.fits;
+        objects_fit = omega (arith, k.objects_fit, rest.objects);
+        groups_fit = omega (arith, k.groups_fit, rest.room, ap (λ (x : Counted). x.room) same);
+        simple_fit = omega (arith, k.simple_fit, rest.simple);
+        simple_few = omega (arith, k.simple_few, rest.simples, one_longer);
+        callbacks_few = omega (arith, k.callbacks_few, callbacks_few r.limits (world_behind r) who call a after m in_range, one_longer);
+        own = ap length own_is ∙ rest.own ∙ k.own;
+        full = record {
+          owned = ap length owned_is ∙ owned.many;
+          left = many;
+          running = ap length running_is ∙ running.many;
+          own = λ g h. ap (λ o. length (row_of o g)) own_is ∙ owned.rows g (omega (arith, h, ap length own_is));
+        };
+        counts = subst (λ s. IsCounted after s c) (sym shelf_now) counts_now;
+        actors = actors_noted (world_behind r) b who library after now m.kept new m.sound m.keeps (effect_of call a) facts k.actors noted;
+        before = ap (λ (x : Vec Bool Global). length x.items) rest.before ∙ k.before;
+      }
