@@ -41,16 +41,16 @@ use Rattle.tp_library.proofs.Noting.{AreCounted, AreOwned}
 use Rattle.tp_library.proofs.Summing.{above_new}
 
 module _ (r : Recording) (b : Beside) (k : IsKept r b) (who : Who) (call : Call) (library : ℕ) (a : Answer) (told : outcome_behind r who call ≡ outcome.Done a) (m : Effects r who call a) where
-  abbrev behind : Recording
+  abbrev pub behind : Recording
   behind = recorded r who call (outcome.Done a)
 
-  abbrev after : World
+  abbrev pub after : World
   after = world_behind (recorded r who call (outcome.Done a))
 
-  abbrev now : Shelf
+  abbrev pub now : Shelf
   now = shelf_by b.shelf.shelf who (effect_of call a) library
 
-  now_is : shelf_answered b.shelf.shelf who call library a ≡ now
+  pub now_is : shelf_answered b.shelf.shelf who call library a ≡ now
   now_is = shelf_is b.shelf.shelf who call library a (answered r b k who call a told)
 
   facts : By (world_behind r) b.shelf.shelf who (effect_of call a) library after now m.kept
@@ -102,7 +102,7 @@ module _ (r : Recording) (b : Beside) (k : IsKept r b) (who : Who) (call : Call)
         (news_by who call a first count made)
         (λ none. (left_kept none).each l h ∙ sym (shelf_kept.left l))
 
-    shelf_now : new.shelf.shelf ≡ now
+    pub shelf_now : new.shelf.shelf ≡ now
     shelf_now = (rest_noted b who (effect_of call a) library new noted).shelf
 
     few_now : IsAnswerInRange a → (l : ℕ) → left_in now l after.callbacks < 2 ^ 64

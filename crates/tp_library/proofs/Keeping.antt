@@ -16,6 +16,7 @@ use Rattle.tp_model.proofs.Fitting.{legal_fits}
 use Rattle.recorded.specs.Recordings.{world_behind, Recording}
 use Rattle.tp_library.specs.Beside.{none_held, opening_actors, opening_counts, row_of}
 use Rattle.tp_library.specs.Kept.{held_by, run_in, stand_of, AreOpened, IsKept}
+use Rattle.tp_library.specs.Libraries.{is_unloaded, IsLibrary}
 use Rattle.tp_library.specs.Seen.{was_held, was_unloaded, Seen}
 use Rattle.tp_library.specs.Shelves.{callbacks_in, holds, is_callback_in, is_object_in, objects_in, Shelf}
 use Rattle.tp_library.specs.Tallies.{at}
@@ -156,3 +157,9 @@ module _ (limits : Limits) (capacity : ℕ) (in_range : AreLimitsInRange limits)
 pub none_unloaded : (limits : Limits) (capacity : ℕ) (r : Recording) (b : Beside) → AreOpened limits capacity b → (library : ℕ) → was_unloaded (record { stand = stand_of r b; before = b.before.items }) library ≡ false
 none_unloaded limits capacity r b o library =
     ap (λ x. x && (holds (stand_of r b) library == 0)) (ap (λ xs. was_held xs library) o.before ∙ none_before (LIBRARY_LIMIT + 1) library)
+
+-- what a step lets go
+pub unloaded_between : (r q : Recording) (b new : Beside) → IsKept r b → ((library : ℕ) → library ≤ LIBRARY_LIMIT → was_held new.before.items library ≡ nat_lt 0 (held_by b library))
+    → (library : ℕ) → IsLibrary library → was_unloaded (record { stand = stand_of q new; before = new.before.items }) library ≡ is_unloaded (stand_of r b) (stand_of q new) library
+unloaded_between r q b new k before library is =
+    ap (λ x. x && (holds (stand_of q new) library == 0)) (before library (omega (arith, is.1)) ∙ ap (nat_lt 0) (holds_as r b k library (omega (arith, is.1))))

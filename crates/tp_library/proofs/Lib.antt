@@ -20,6 +20,7 @@ pub mod Moving
 pub mod News
 pub mod Noted
 pub mod Noting
+pub mod Pooling
 pub mod Shelving
 pub mod Staying
 pub mod Stepping

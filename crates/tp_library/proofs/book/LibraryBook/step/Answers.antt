@@ -1,0 +1,51 @@
+use Rattle.std.proofs.Common.{◌≡◌, ℕ, ◌≤◌, nat_lt, sym, ap, ◌∙◌, subst, arith}
+use Rattle.tp_library.specs.Kept.{held_by, stand_of}
+use Rattle.tp_library.specs.Libraries.{is_unloaded, IsLibrary}
+use Rattle.tp_library.specs.Seen.{was_held, was_unloaded}
+use Rattle.tp_library.specs.declared.beside.Beside.{Beside}
+use Rattle.tp_library.specs.declared.TheConstants.{LIBRARY_LIMIT}
+use Rattle.tp_library.proofs.Keeping.{unloaded_between}
+use Rattle.tp_library.proofs.Loaded.{loaded}
+use Rattle.tp_library.proofs.book.LibraryBook.step.Goals as goal
+
+pub returns-in-Load-clause-loaded : goal.returns-in-Load-clause-loaded
+returns-in-Load-clause-loaded g c = loaded (stand_of (g.B.Recorded.recording c.self.inside.book) c.load.new.self)
+
+pub returns-in-Free-clause-loaded : goal.returns-in-Free-clause-loaded
+returns-in-Free-clause-loaded g c = loaded (stand_of (g.B.Recorded.recording c.self.inside.book) c.free.new.self)
+
+pub returns-in-FreeOnReturn-clause-loaded : goal.returns-in-FreeOnReturn-clause-loaded
+returns-in-FreeOnReturn-clause-loaded g c = loaded (stand_of (g.B.Recorded.recording c.self.inside.book) c.free_on_return.new.self)
+
+pub returns-in-Load-clause-unloaded : goal.returns-in-Load-clause-unloaded
+returns-in-Load-clause-unloaded g c =
+    let r = g.B.Recorded.recording c.self.inside.book in
+    rw (← c.self.view_is)
+    (unloaded_between r r c.self.inside.beside c.load.new.self c.self.invariant
+    (λ l h. ap (λ (b : Beside). was_held b.before.items l) c.load.ensures.same ∙ c.remember.ensures.held l h))
+
+pub returns-in-Free-clause-unloaded : goal.returns-in-Free-clause-unloaded
+returns-in-Free-clause-unloaded g c =
+    let r = g.B.Recorded.recording c.self.inside.book in
+    rw (← c.self.view_is)
+    (unloaded_between r r c.self.inside.beside c.free.new.self c.self.invariant
+    (λ l h. ap (λ (b : Beside). was_held b.before.items l) c.free.ensures.same ∙ c.remember.ensures.held l h))
+
+pub returns-in-FreeOnReturn-clause-unloaded : goal.returns-in-FreeOnReturn-clause-unloaded
+returns-in-FreeOnReturn-clause-unloaded g c =
+    let r = g.B.Recorded.recording c.self.inside.book in
+    rw (← c.self.view_is)
+    (unloaded_between r r c.self.inside.beside c.free_on_return.new.self c.self.invariant
+    (λ l h. ap (λ (b : Beside). was_held b.before.items l) c.free_on_return.ensures.same ∙ c.remember.ensures.held l h))
+
+pub returns-in-Pool-clause-answer : goal.returns-in-Pool-clause-answer
+returns-in-Pool-clause-answer g c = ?
+
+pub returns-in-Pool-clause-stand : goal.returns-in-Pool-clause-stand
+returns-in-Pool-clause-stand g c = ?
+
+pub returns-in-Pool-clause-unloaded : goal.returns-in-Pool-clause-unloaded
+returns-in-Pool-clause-unloaded g c = ?
+
+pub returns-in-Pool-clause-loaded : goal.returns-in-Pool-clause-loaded
+returns-in-Pool-clause-loaded g c = ?
