@@ -120,13 +120,13 @@ module _ (r : Recording) (b : Beside) (k : IsKept r b) (who : Who) (library : �
       let w = world_behind r in
       let groups = grouped r k.legal in
       let more : length after.objects ≡ length w.objects + 1 =
-          omega (
-            arith,
-            ap length by.groups,
-            groups_long after.objects,
-            groups_long w.objects,
-            length-append (groups_in w) (group.0 ∷ []),
-          ) in
+      omega (
+        arith,
+        ap length by.groups,
+        groups_long after.objects,
+        groups_long w.objects,
+        length-append (groups_in w) (group.0 ∷ []),
+      ) in
       let in_own : group.0 < length b.counts.own = omega (arith, in_group, groups.groups, k.own) in (
         is_library,
         in_own,
@@ -148,7 +148,7 @@ module _ (r : Recording) (b : Beside) (k : IsKept r b) (who : Who) (library : �
     is_library,
     omega (arith, room, k.simple_few, k.simple_fit),
     All-from_recursion (λ (made : ℕ × ℕ). made.0 < callback) b.shelf.shelf.of_simple
-    (subst (λ n. AllByRecursion (λ (made : ℕ × ℕ). made.0 < n) b.shelf.shelf.of_simple) (sym simple) k.shelf.simples),
+        (subst (λ n. AllByRecursion (λ (made : ℕ × ℕ). made.0 < n) b.shelf.shelf.of_simple) (sym simple) k.shelf.simples),
   )
   can_note_by (Takes callback object) by in_group simple = λ l h.
       omega (arith, k.counts.running l h, count_by-le-length (is_run_in b.shelf.shelf l) (world_behind r).callbacks, few_callbacks r b k)

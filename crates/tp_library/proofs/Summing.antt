@@ -46,7 +46,7 @@ rows_high : (s : Shelf) (library number : ℕ) (cs : List CallbackRow) → AllBy
 rows_high s library number [] high = refl
 rows_high s library number (c ∷ cs) high =
     elim (is_left c.status) as (λ b. rows_in s library number (map row_at (cond b (c ∷ filter (λ (d : CallbackRow). is_left d.status) cs) (filter (λ (d : CallbackRow). is_left d.status) cs)))
-        ≡ cond (b && (library_of s c == library)) 1 0 + left_in s library cs) [
+    ≡ cond (b && (library_of s c == library)) 1 0 + left_in s library cs) [
       | true ↦
           ap (count_by (is_row_in s library)) (kept_row number (row_at c) (rows_of cs) high.0)
           ∙ count_cons (is_row_in s library) (row_at c) (filter (is_above number) (rows_of cs))

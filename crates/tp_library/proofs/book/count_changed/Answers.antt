@@ -22,7 +22,7 @@ count_above-requires-clause-fits g c = λ k h.
     )
 
 pub count_above-requires-then-count-gt0 : goal.count_above-requires-then-count-gt0
-count_above-requires-then-count-gt0 g c = 
+count_above-requires-then-count-gt0 g c =
     let rows = left (world_behind (g.B.Recorded.recording c.args.book.now)) in
     let s = c.args.shelf.now.shelf in
     record {

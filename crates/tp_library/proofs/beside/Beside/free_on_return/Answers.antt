@@ -30,8 +30,8 @@ returns-then-slot-ne0 c =
     record {
       same = refl;
       step = λ r are. slot_taken (stand_of r b) b.actors c.args.who c.args.library are (may_act (goal.at.returns-then-slot-ne0 c).In_default)
-      (sym c.is_running.ensures ∙ c.if-not-is_running.false)
-      (isnt_zero c.slot.result (slot_of b.shelf.shelf c.args.who) c.slot.ensures.value c.if-slot-ne0.true);
+          (sym c.is_running.ensures ∙ c.if-not-is_running.false)
+          (isnt_zero c.slot.result (slot_of b.shelf.shelf c.args.who) c.slot.ensures.value c.if-slot-ne0.true);
     }
 
 pub returns-then-load-eq0 : goal.returns-then-load-eq0
@@ -40,9 +40,9 @@ returns-then-load-eq0 c =
     record {
       same = refl;
       step = λ r are. no_load_left (stand_of r b) b.actors c.args.who c.args.library are (may_act (goal.at.returns-then-load-eq0 c).In_default)
-      (sym c.is_running.ensures ∙ c.if-not-is_running.false)
-      (is_zero c.slot.result (slot_of b.shelf.shelf c.args.who) c.slot.ensures.value c.if-slot-ne0.false)
-      (is_zero c.load.result (load b.shelf.shelf c.args.library.0) c.load.ensures.value c.if-load-eq0.true);
+          (sym c.is_running.ensures ∙ c.if-not-is_running.false)
+          (is_zero c.slot.result (slot_of b.shelf.shelf c.args.who) c.slot.ensures.value c.if-slot-ne0.false)
+          (is_zero c.load.result (load b.shelf.shelf c.args.library.0) c.load.ensures.value c.if-load-eq0.true);
     }
 
 pub returns : goal.returns
@@ -52,7 +52,7 @@ returns c =
     (record {
       same = ap (λ (s : Shelf). record b { shelf = record b.shelf { shelf = s } }) (slot_parts b.shelf.shelf c.args.who c.args.library.0);
       step = λ r are. slot_filled (stand_of r b) b.actors c.args.who c.args.library are (may_act (goal.at.returns c).In_default)
-      (sym c.is_running.ensures ∙ c.if-not-is_running.false)
-      (is_zero c.slot.result (slot_of b.shelf.shelf c.args.who) c.slot.ensures.value c.if-slot-ne0.false)
-      (isnt_zero c.load.result (load b.shelf.shelf c.args.library.0) c.load.ensures.value c.if-load-eq0.false);
+          (sym c.is_running.ensures ∙ c.if-not-is_running.false)
+          (is_zero c.slot.result (slot_of b.shelf.shelf c.args.who) c.slot.ensures.value c.if-slot-ne0.false)
+          (isnt_zero c.load.result (load b.shelf.shelf c.args.library.0) c.load.ensures.value c.if-load-eq0.false);
     })

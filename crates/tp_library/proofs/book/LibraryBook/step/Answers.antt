@@ -1,6 +1,10 @@
-use Rattle.std.proofs.Common.{◌≡◌, ℕ, ◌≤◌, nat_lt, sym, ap, ◌∙◌, subst, arith}
+use Rattle.std.proofs.Common.{Bool, Global, Vec, ◌≡◌, ℕ, ◌≤◌, nat_lt, sym, ap, ◌∙◌, subst, arith}
+use Rattle.tp_library.specs.Beside.{Stocked}
 use Rattle.tp_library.specs.Kept.{held_by, stand_of}
-use Rattle.tp_library.specs.Libraries.{is_unloaded, IsLibrary}
+use Rattle.tp_library.specs.Shelves.{Stand}
+use Rattle.tp_library.specs.declared.LibAnswer.{LibAnswer}
+use Rattle.tp_library.specs.declared.LibCall.TheVariants.{Pool}
+use Rattle.tp_library.specs.Libraries.{is_unloaded, step_at, IsLibrary}
 use Rattle.tp_library.specs.Seen.{was_held, was_unloaded}
 use Rattle.tp_library.specs.declared.beside.Beside.{Beside}
 use Rattle.tp_library.specs.declared.TheConstants.{LIBRARY_LIMIT}
@@ -39,13 +43,23 @@ returns-in-FreeOnReturn-clause-unloaded g c =
     (λ l h. ap (λ (b : Beside). was_held b.before.items l) c.free_on_return.ensures.same ∙ c.remember.ensures.held l h))
 
 pub returns-in-Pool-clause-answer : goal.returns-in-Pool-clause-answer
-returns-in-Pool-clause-answer g c = ?
+returns-in-Pool-clause-answer g c =
+    let r = g.B.Recorded.recording c.self.inside.book in
+    rw (← c.self.view_is, c.in-Pool.is)
+    (sym (ap (λ (came : Stand × LibAnswer). came.1) (ap (λ (s : Stocked). step_at (record { recording = r; shelf = s.shelf }) c.args.who (Pool c.in-Pool.call c.in-Pool.library)) (sym c.remember.ensures.shelf) ∙ c.ask.ensures.step)))
 
 pub returns-in-Pool-clause-stand : goal.returns-in-Pool-clause-stand
-returns-in-Pool-clause-stand g c = ?
+returns-in-Pool-clause-stand g c =
+    let r = g.B.Recorded.recording c.self.inside.book in
+    rw (← c.self.view_is, c.in-Pool.is)
+    (sym (ap (λ (came : Stand × LibAnswer). came.0) (ap (λ (s : Stocked). step_at (record { recording = r; shelf = s.shelf }) c.args.who (Pool c.in-Pool.call c.in-Pool.library)) (sym c.remember.ensures.shelf) ∙ c.ask.ensures.step)))
 
 pub returns-in-Pool-clause-unloaded : goal.returns-in-Pool-clause-unloaded
-returns-in-Pool-clause-unloaded g c = ?
+returns-in-Pool-clause-unloaded g c =
+    let r = g.B.Recorded.recording c.self.inside.book in
+    rw (← c.self.view_is)
+    (unloaded_between r (g.B.Recorded.recording c.ask.new.book) c.self.inside.beside c.ask.new.beside c.self.invariant
+    (λ l h. ap (λ (v : Vec Bool Global). was_held v.items l) c.ask.ensures.before ∙ c.remember.ensures.held l h))
 
 pub returns-in-Pool-clause-loaded : goal.returns-in-Pool-clause-loaded
-returns-in-Pool-clause-loaded g c = ?
+returns-in-Pool-clause-loaded g c = loaded (stand_of (g.B.Recorded.recording c.ask.new.book) c.ask.new.beside)
