@@ -8,12 +8,12 @@ use Rattle.tp_model.specs.Laws.Once.{left}
 use Rattle.recorded.specs.Recordings.{world_behind, Recording}
 use Rattle.recorded.proofs.Walks.{AreRising}
 use Rattle.tp_base.specs.declared.ids.GroupId.{GroupId}
-use Rattle.tp_library.specs.Beside.{none_held}
+use Rattle.tp_library.specs.Tallied.{none_held}
 use Rattle.tp_library.specs.Counted.{one_in}
 use Rattle.tp_library.specs.declared.told.Effect.{Effect}
 use Rattle.tp_library.specs.declared.told.Effect.TheVariants.{Closes}
 use Rattle.tp_library.specs.declared.TheConstants.{LIBRARY_LIMIT}
-use Rattle.tp_library.specs.Kept.{counted_left, is_above, is_row_in, rows_in, Row}
+use Rattle.tp_library.specs.Rows.{counted_left, is_above, is_row_in, rows_in, Row}
 use Rattle.tp_library.specs.Shelves.{library_at, Shelf}
 use Rattle.tp_library.specs.Tallies.{at, lowered, raised}
 use Rattle.tp_library.proofs.Counting.{count_cons}

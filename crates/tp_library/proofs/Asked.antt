@@ -16,10 +16,12 @@ use Rattle.tp_model.specs.Laws.Once.{left}
 use Rattle.tp_model.specs.World.{World}
 use Rattle.tp_model.proofs.Fitting.{legal_fits}
 use Rattle.recorded.specs.Recordings.{outcome_behind, recorded, world_behind, Recording}
-use Rattle.tp_library.specs.Beside.{row_of, Counted}
+use Rattle.tp_library.specs.Tallied.{row_of, Tallied}
 use Rattle.tp_library.specs.Counted.{is_left_in, left_in, members_in, on_objects, runs_in, IsShelfOf}
 use Rattle.tp_library.specs.Effecting.{effect_of}
-use Rattle.tp_library.specs.Kept.{counted_left, is_row_in, rows_in, stand_of, CanNote, IsCounted, IsKept, IsNoted}
+use Rattle.tp_library.specs.Kept.{stand_of, IsCounted, IsKept}
+use Rattle.tp_library.specs.Noted.{CanNote, IsNoted}
+use Rattle.tp_library.specs.Rows.{counted_left, is_row_in, rows_in}
 use Rattle.tp_library.specs.Libraries.{shelf_answered}
 use Rattle.tp_library.specs.Shelves.{objects_in, Shelf, Stand}
 use Rattle.tp_library.specs.Tallies.{at}
@@ -120,7 +122,7 @@ module _ (r : Recording) (b : Beside) (k : IsKept r b) (who : Who) (call : Call)
 
     -- ---- once the callbacks were counted
 
-    module _ (is_library : library ≤ LIBRARY_LIMIT) (in_range : IsAnswerInRange a) (c : Counted) (left_is : (l : ℕ) → l ≤ LIBRARY_LIMIT → at c.left l ≡ counted_left new.shelf.shelf l (effect_of call a) first count (left after) new.counts.left) (many : length c.left ≡ LIBRARY_LIMIT + 1) (same : c ≡ record new.counts { left = c.left }) where
+    module _ (is_library : library ≤ LIBRARY_LIMIT) (in_range : IsAnswerInRange a) (c : Tallied) (left_is : (l : ℕ) → l ≤ LIBRARY_LIMIT → at c.left l ≡ counted_left new.shelf.shelf l (effect_of call a) first count (left after) new.counts.left) (many : length c.left ≡ LIBRARY_LIMIT + 1) (same : c ≡ record new.counts { left = c.left }) where
       rest : IsRest b who (effect_of call a) library new
       rest = rest_noted b who (effect_of call a) library new noted
 
@@ -137,13 +139,13 @@ module _ (r : Recording) (b : Beside) (k : IsKept r b) (who : Who) (call : Call)
       running = running_noted (world_behind r) b who library after now m.kept new (effect_of call a) facts k.actors (record { many = k.full.running; each = k.counts.running }) noted
 
       owned_is : c.owned ≡ new.counts.owned
-      owned_is = ap (λ (x : Counted). x.owned) same
+      owned_is = ap (λ (x : Tallied). x.owned) same
 
       own_is : c.own ≡ new.counts.own
-      own_is = ap (λ (x : Counted). x.own) same
+      own_is = ap (λ (x : Tallied). x.own) same
 
       running_is : c.running ≡ new.counts.running
-      running_is = ap (λ (x : Counted). x.running) same
+      running_is = ap (λ (x : Tallied). x.running) same
 
       counts_now : IsCounted after now c
       counts_now = record {
@@ -159,7 +161,7 @@ module _ (r : Recording) (b : Beside) (k : IsKept r b) (who : Who) (call : Call)
           m.new_runs now l,
           ap (runs_in now l) m.callbacks,
         );
-        groups = ap (λ (x : Counted). x.groups) same ∙ rest.groups ∙ ap (groups_by (effect_of call a)) k.counts.groups ∙ sym facts.groups;
+        groups = ap (λ (x : Tallied). x.groups) same ∙ rest.groups ∙ ap (groups_by (effect_of call a)) k.counts.groups ∙ sym facts.groups;
       }
 
       pub asked_kept : IsKept behind (record { shelf = new.shelf; counts = c; actors = new.actors; before = new.before })
@@ -170,7 +172,7 @@ module _ (r : Recording) (b : Beside) (k : IsKept r b) (who : Who) (call : Call)
         capacity = k.capacity;
         shelf = subst (λ s. IsShelfOf s after) (sym shelf_now) shelf_kept.fits;
         objects_fit = omega (arith, k.objects_fit, rest.objects);
-        groups_fit = omega (arith, k.groups_fit, rest.room, ap (λ (x : Counted). x.room) same);
+        groups_fit = omega (arith, k.groups_fit, rest.room, ap (λ (x : Tallied). x.room) same);
         simple_fit = omega (arith, k.simple_fit, rest.simple);
         simple_few = omega (arith, k.simple_few, rest.simples, one_longer);
         callbacks_few = omega (arith, k.callbacks_few, callbacks_few r.limits (world_behind r) who call a after m in_range, one_longer);

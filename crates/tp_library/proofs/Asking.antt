@@ -28,10 +28,12 @@ use Rattle.tp_model.proofs.Refusals.{numbered_some}
 use Rattle.tp_library.proofs.Counting.{left_appended, left_listed}
 use Rattle.tp_model.proofs.Fitting.{legal_fits}
 use Rattle.recorded.specs.Recordings.{outcome_behind, recorded, room_of, world_behind, Recording}
-use Rattle.tp_library.specs.Beside.{group_of, row_of}
+use Rattle.tp_library.specs.Tallied.{group_of, row_of}
 use Rattle.tp_library.specs.Counted.{is_left_in, is_member_in, is_run_in, left_in, members_in, objects_told, on_objects, runs_in}
 use Rattle.tp_library.specs.Effecting.{effect_of}
-use Rattle.tp_library.specs.Kept.{counted_left, groups_in, rows_in, CanNote, IsKept, IsNoted}
+use Rattle.tp_library.specs.Kept.{groups_in, IsKept}
+use Rattle.tp_library.specs.Noted.{CanNote, IsNoted}
+use Rattle.tp_library.specs.Rows.{counted_left, rows_in}
 use Rattle.tp_library.specs.Libraries.{shelf_answered}
 use Rattle.tp_library.specs.Shelves.{Shelf}
 use Rattle.tp_library.specs.Tallies.{at}

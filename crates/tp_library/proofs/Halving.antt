@@ -7,7 +7,7 @@ use Rattle.std.proofs.lemmas.Bool.Decides.{nat_tests}
 use Rattle.std.specs.Ordering.{ordering_index}
 use Rattle.std.specs.declared.cmp.Ordering.TheVariants.{Less, Equal, Greater}
 use Rattle.std.specs.List.Sorted.{IsNonDecreasingBy, IsPartitionPoint}
-use Rattle.tp_library.specs.Beside.{none_held}
+use Rattle.tp_library.specs.Tallied.{none_held}
 use Rattle.tp_library.specs.Shelved.{IsBefore, IsShelved}
 use Rattle.tp_library.specs.Tallies.{at}
 use Rattle.tp_library.specs.declared.TheConstants.{LIBRARY_LIMIT, LOAD_LIMIT}

@@ -14,7 +14,8 @@ use Rattle.tp_base.specs.Ranges.{AreLimitsInRange}
 use Rattle.tp_model.specs.World.{opening, unattached, unfinished, World}
 use Rattle.tp_model.proofs.Fitting.{legal_fits}
 use Rattle.recorded.specs.Recordings.{world_behind, Recording}
-use Rattle.tp_library.specs.Beside.{none_held, opening_actors, opening_counts, row_of}
+use Rattle.tp_library.specs.Acting.{opening_actors}
+use Rattle.tp_library.specs.Tallied.{none_held, opening_counts, row_of}
 use Rattle.tp_library.specs.Kept.{held_by, run_in, stand_of, AreOpened, IsKept}
 use Rattle.tp_library.specs.Libraries.{is_unloaded, IsLibrary}
 use Rattle.tp_library.specs.Seen.{was_held, was_unloaded, Seen}

@@ -8,10 +8,13 @@ use Rattle.tp_base.specs.declared.rows.CallbackRow.{CallbackRow}
 use Rattle.tp_model.specs.Counts.{has_number}
 use Rattle.tp_model.specs.Support.Sound.{IsSound}
 use Rattle.tp_model.specs.World.{World}
-use Rattle.tp_library.specs.Beside.{group_of, none_held, row_of, run_of, with_left, with_run, with_object, with_running, without_left, without_object, without_running, Counted, IsWithoutGroup, Stocked}
+use Rattle.tp_library.specs.Acting.{run_of, with_run}
+use Rattle.tp_library.specs.Shelved.{Stocked}
+use Rattle.tp_library.specs.Tallied.{group_of, none_held, row_of, with_left, with_object, with_running, without_left, without_object, without_running, Tallied, IsWithoutGroup}
 use Rattle.tp_library.specs.Tallies.{lowered, raised}
 use Rattle.tp_library.specs.Counted.{left_in, members_in, one_in, runs_in}
-use Rattle.tp_library.specs.Kept.{groups_in, run_in, with_simple, without_run, AreActors, CanNote, IsNoted}
+use Rattle.tp_library.specs.Kept.{groups_in, run_in, AreActors}
+use Rattle.tp_library.specs.Noted.{with_simple, without_run, CanNote, IsNoted}
 use Rattle.tp_library.specs.Libraries.{freed_slot, slot_of, with_slot}
 use Rattle.tp_library.specs.Shelves.{library_at, library_of, library_of_object, Shelf}
 use Rattle.tp_library.specs.declared.beside.Beside.{Beside}
@@ -25,7 +28,7 @@ use Rattle.tp_library.proofs.Noting.{actors_finish, actors_run, actors_same, cou
 
 -- ---- what a return leaves alone
 
-unrun : (c : Counted) (s : Shelf) (run : Option (ℕ × ℕ)) → without_run c s run ≡ record c { running = (without_run c s run).running }
+unrun : (c : Tallied) (s : Shelf) (run : Option (ℕ × ℕ)) → without_run c s run ≡ record c { running = (without_run c s run).running }
 unrun c s None = refl
 unrun c s (Some run) = refl
 
@@ -109,9 +112,9 @@ rest_noted b who Returns library new noted =
       simple = refl;
       simples = omega (arith, ap length (slot_simples (freed_slot b.shelf.shelf (slot_of b.shelf.shelf who)) who 0));
       before = refl;
-      room = ap (λ (c : Counted). c.room) same;
-      groups = ap (λ (c : Counted). c.groups) same;
-      own = ap (λ (c : Counted). length c.own) same;
+      room = ap (λ (c : Tallied). c.room) same;
+      groups = ap (λ (c : Tallied). c.groups) same;
+      own = ap (λ (c : Tallied). length c.own) same;
     }
 rest_noted b who (Cancels object count) library new noted =
     subst (IsRest b who (Cancels object count) library) (sym noted) record { shelf = refl; objects = refl; simple = refl; simples = omega arith; before = refl; room = refl; groups = refl; own = refl }
@@ -143,7 +146,7 @@ module _ (w : World) (b : Beside) (who : Who) (library : ℕ) (after : World) (n
       subst (λ (x : Beside). AreOwned after now x.counts.owned x.counts.own) (sym noted) (owned_same w b.shelf.shelf after now b.counts.owned b.counts.own are by.held)
   owned_noted Returns can by groups are noted =
       subst (λ (x : Beside). AreOwned after now x.counts.owned x.counts.own) (sym noted)
-      (subst (λ (c : Counted). AreOwned after now c.owned c.own) (sym (unrun b.counts b.shelf.shelf (run_of b.actors who))) (owned_same w b.shelf.shelf after now b.counts.owned b.counts.own are by.held))
+      (subst (λ (c : Tallied). AreOwned after now c.owned c.own) (sym (unrun b.counts b.shelf.shelf (run_of b.actors who))) (owned_same w b.shelf.shelf after now b.counts.owned b.counts.own are by.held))
   owned_noted Finishes can by groups are noted =
       subst (λ (x : Beside). AreOwned after now x.counts.owned x.counts.own) (sym noted) (owned_same w b.shelf.shelf after now b.counts.owned b.counts.own are by.held)
   owned_noted Nothing can by groups are noted =
@@ -163,7 +166,7 @@ module _ (w : World) (b : Beside) (who : Who) (library : ℕ) (after : World) (n
       subst (AreCounted b.shelf.shelf left_in kept) (sym noted.1.left) (counted_same b.shelf.shelf left_in w.callbacks kept b.counts.left are (by.counts.left none b.shelf.shelf))
   left_noted Returns by are noted none =
       subst (λ (x : Beside). AreCounted b.shelf.shelf left_in kept x.counts.left) (sym noted)
-      (subst (λ (c : Counted). AreCounted b.shelf.shelf left_in kept c.left) (sym (unrun b.counts b.shelf.shelf (run_of b.actors who))) (counted_same b.shelf.shelf left_in w.callbacks kept b.counts.left are (by.counts.left b.shelf.shelf)))
+      (subst (λ (c : Tallied). AreCounted b.shelf.shelf left_in kept c.left) (sym (unrun b.counts b.shelf.shelf (run_of b.actors who))) (counted_same b.shelf.shelf left_in w.callbacks kept b.counts.left are (by.counts.left b.shelf.shelf)))
   left_noted (Makes group) by are noted none =
       subst (λ (x : Beside). AreCounted b.shelf.shelf left_in kept x.counts.left) (sym noted) (counted_same b.shelf.shelf left_in w.callbacks kept b.counts.left are (by.counts.left b.shelf.shelf))
   left_noted (Releases object) by are noted none =

@@ -12,10 +12,12 @@ use Rattle.tp_base.specs.declared.rows.ObjectRow.{ObjectRow}
 use Rattle.tp_model.specs.Counts.{callback_of, has_number, numbered}
 use Rattle.tp_model.specs.Support.Sound.{IsSound}
 use Rattle.tp_model.specs.World.{World}
-use Rattle.tp_library.specs.Beside.{group_of, none_held, row_of, run_of, with_left, with_object, with_running, without_left, without_object, without_running, Acting, Counted, IsWithoutGroup}
-use Rattle.tp_library.specs.Beside as beside
+use Rattle.tp_library.specs.Acting.{run_of, Acting}
+use Rattle.tp_library.specs.Tallied.{group_of, none_held, row_of, with_left, with_object, with_running, without_left, without_object, without_running, Tallied, IsWithoutGroup}
+use Rattle.tp_library.specs.Acting as acting
 use Rattle.tp_library.specs.Counted.{client_number, finished_in, left_in, members_in, one_in, runs_in, runs_of, with_finished, with_run}
-use Rattle.tp_library.specs.Kept.{groups_in, object_at, run_in, without_run, AreActors, AreFull, IsCounted}
+use Rattle.tp_library.specs.Kept.{groups_in, object_at, run_in, AreActors, AreFull, IsCounted}
+use Rattle.tp_library.specs.Noted.{without_run}
 use Rattle.tp_library.specs.Shelves.{library_at, library_of, library_of_object, objects_in, Shelf}
 use Rattle.tp_library.specs.Tallies.{at, lowered, raised}
 use Rattle.tp_library.specs.declared.TheConstants.{LIBRARY_LIMIT}
@@ -212,14 +214,14 @@ module _ (w after : World) (sound : IsSound (length w.callbacks + 1) w) (keeps :
   pub actors_same : (a : Acting) → finished_in after ≡ finished_in w → runs_of after ≡ runs_of w → AreActors w a → AreActors after a
   actors_same a f r are = record { finished = are.finished ∙ sym f; runs = are.runs ∙ sym (ap (map (run_in after)) r ∙ runs_kept) }
 
-  pub actors_finish : (a : Acting) (who : Who) → finished_in after ≡ with_finished (client_number who) (finished_in w) → runs_of after ≡ runs_of w → AreActors w a → AreActors after (beside.with_finished a who)
+  pub actors_finish : (a : Acting) (who : Who) → finished_in after ≡ with_finished (client_number who) (finished_in w) → runs_of after ≡ runs_of w → AreActors w a → AreActors after (acting.with_finished a who)
   actors_finish a (Client number) f r are = record {
     finished = ap (λ xs. slice_set xs (number - 1) true) are.finished ∙ sym f;
     runs = are.runs ∙ sym (ap (map (run_in after)) r ∙ runs_kept);
   }
   actors_finish a (Worker number) f r are = actors_same a f r are
 
-  pub actors_run : (a : Acting) (who : Who) (run : Option ℕ) → finished_in after ≡ finished_in w → runs_of after ≡ with_run who run (runs_of w) → AreActors w a → AreActors after (beside.with_run a who (run_in after run))
+  pub actors_run : (a : Acting) (who : Who) (run : Option ℕ) → finished_in after ≡ finished_in w → runs_of after ≡ with_run who run (runs_of w) → AreActors w a → AreActors after (acting.with_run a who (run_in after run))
   actors_run a (Client number) run f r are = actors_same a f r are
   actors_run a (Worker number) run f r are = record {
     finished = are.finished ∙ sym f;

@@ -12,9 +12,11 @@ use Rattle.tp_base.specs.Ranges.{IsAnswerInRange}
 use Rattle.tp_model.specs.Laws.Entries.{made_by}
 use Rattle.tp_model.specs.Laws.Once.{left}
 use Rattle.recorded.specs.Recordings.{outcome_behind, recorded, world_behind, Recording}
-use Rattle.tp_library.specs.Beside.{Counted}
+use Rattle.tp_library.specs.Tallied.{Tallied}
 use Rattle.tp_library.specs.Effecting.{effect_of}
-use Rattle.tp_library.specs.Kept.{counted_left, held_by, stand_of, CanNote, IsKept, IsNoted}
+use Rattle.tp_library.specs.Kept.{held_by, stand_of, IsKept}
+use Rattle.tp_library.specs.Noted.{CanNote, IsNoted}
+use Rattle.tp_library.specs.Rows.{counted_left}
 use Rattle.tp_library.specs.Libraries.{made_at, shelf_after, shelf_answered, step_at, unless_refused}
 use Rattle.tp_library.specs.Shelves.{holds, Shelf, Stand}
 use Rattle.tp_library.specs.Tallies.{at}
@@ -110,13 +112,13 @@ module _ (r : Recording) (b : Beside) (k : IsKept r b) (who : Who) (call : Call)
       pub may_count : (l : ℕ) → l ≤ LIBRARY_LIMIT → counted_left new.shelf.shelf l effect first count (left (world_behind q)) new.counts.left < 2 ^ 64
       may_count l h = omega (arith, same_counted l, counted_fits r b k who call library.0 a told (effects_of r k.legal who call a told) new noted_as first count made in_range l h)
 
-      pub answered_kept : (c : Counted) → ((l : ℕ) → l ≤ LIBRARY_LIMIT → at c.left l ≡ counted_left new.shelf.shelf l effect first count (left (world_behind q)) new.counts.left) → length c.left ≡ LIBRARY_LIMIT + 1 → c ≡ record new.counts { left = c.left }
+      pub answered_kept : (c : Tallied) → ((l : ℕ) → l ≤ LIBRARY_LIMIT → at c.left l ≡ counted_left new.shelf.shelf l effect first count (left (world_behind q)) new.counts.left) → length c.left ≡ LIBRARY_LIMIT + 1 → c ≡ record new.counts { left = c.left }
           → IsKept q (record { shelf = new.shelf; counts = c; actors = new.actors; before = new.before })
       answered_kept c left_is many same =
           subst (λ (x : Recording). IsKept x (record { shelf = new.shelf; counts = c; actors = new.actors; before = new.before })) (sym came)
           (asked_kept r b k who call library.0 a told (effects_of r k.legal who call a told) new noted_as first count made is_library in_range c (λ l h. left_is l h ∙ same_counted l) many same)
 
-      pub answered_step : (c : Counted) → (0 < library.0 → nat_lt 0 (held_by b library.0) ≡ true) → step_at (stand_of r b) who (Pool call library) ≡ (stand_of q (record { shelf = new.shelf; counts = c; actors = new.actors; before = new.before }), answer.Pool (outcome.Done a))
+      pub answered_step : (c : Tallied) → (0 < library.0 → nat_lt 0 (held_by b library.0) ≡ true) → step_at (stand_of r b) who (Pool call library) ≡ (stand_of q (record { shelf = new.shelf; counts = c; actors = new.actors; before = new.before }), answer.Pool (outcome.Done a))
       answered_step c held =
           loaded_or_none held
           ∙ ap (made_with r b.shelf.shelf who call library.0) told

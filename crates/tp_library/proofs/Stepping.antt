@@ -10,9 +10,10 @@ use Rattle.tp_base.specs.declared.rows.WorkerRow.{WorkerRow}
 use Rattle.tp_model.specs.Conditions.{is_actor, is_finished, runs_callback}
 use Rattle.tp_model.specs.Counts.{numbered}
 use Rattle.tp_model.specs.World.{World}
-use Rattle.tp_library.specs.Beside.{has_finished, is_there, run_of, Acting}
+use Rattle.tp_library.specs.Acting.{has_finished, is_there, run_of, Acting}
 use Rattle.tp_library.specs.Counted.{finished_in, runs_of}
-use Rattle.tp_library.specs.Kept.{refused_actor, run_in, AreActors}
+use Rattle.tp_library.specs.Kept.{run_in, AreActors}
+use Rattle.tp_library.specs.Stepped.{refused_actor}
 use Rattle.tp_library.specs.Libraries.{first_of, slot_of, step_at, unless_refused, with_slot}
 use Rattle.tp_library.specs.Shelves.{load, world_of, Shelf, Stand}
 use Rattle.tp_library.specs.declared.LibAnswer.{LibAnswer}

@@ -8,7 +8,7 @@ use Rattle.tp_model.specs.Laws.Once.{is_left, left}
 use Rattle.tp_model.specs.Support.Sound.{IsRising}
 use Rattle.tp_model.specs.World.{World}
 use Rattle.tp_library.specs.Counted.{is_left_in, left_in}
-use Rattle.tp_library.specs.Kept.{is_above, is_row_in, rows_in, Row}
+use Rattle.tp_library.specs.Rows.{is_above, is_row_in, rows_in, Row}
 use Rattle.tp_library.specs.Shelves.{library_at, library_of, Shelf}
 use Rattle.tp_library.proofs.Above.{kept_row, left_out}
 use Rattle.tp_library.proofs.Counting.{count_appended, count_cons}

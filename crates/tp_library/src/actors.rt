@@ -1,7 +1,7 @@
 //! What is known of who makes calls.
 
 ghost use Rattle.std.specs.Prelude.{◌≡◌, ◌+◌, ◌-◌, ◌^◌, ◌<◌, ◌≤◌, ℕ, is_some, length, option_map, Some, None, IfOk};
-ghost use Rattle.tp_library.specs.Beside.{has_finished, is_there, opening_actors, run_of, with_finished, with_run, Acting};
+ghost use Rattle.tp_library.specs.Acting.{has_finished, is_there, opening_actors, run_of, with_finished, with_run, Acting};
 
 use std::alloc::{AllocError, Global};
 use std::marker::Model;
@@ -16,7 +16,7 @@ pub(crate) struct Actors {
 }
 
 impl Model for Actors {
-    ghost use Rattle.tp_library.specs.Beside.{Acting};
+    ghost use Rattle.tp_library.specs.Acting.{Acting};
 
     ghost Value = { Acting };
 

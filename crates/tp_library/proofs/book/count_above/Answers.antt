@@ -3,9 +3,9 @@ use Rattle.std.proofs.lemmas.List.{length-set}
 use Rattle.recorded.specs.Recordings.{world_behind}
 use Rattle.tp_model.specs.Laws.Once.{left}
 use Rattle.tp_model.specs.Over.{row_of}
-use Rattle.tp_library.specs.Beside.{with_left, Counted}
+use Rattle.tp_library.specs.Tallied.{with_left, Tallied}
 use Rattle.tp_library.specs.Counted.{one_in}
-use Rattle.tp_library.specs.Kept.{is_above, rows_in}
+use Rattle.tp_library.specs.Rows.{is_above, rows_in}
 use Rattle.tp_library.specs.Tallies.{at, raised}
 use Rattle.tp_library.specs.declared.TheConstants.{LIBRARY_LIMIT}
 use Rattle.tp_library.proofs.Above.{fewer_above, left_rises, one_same, raised_at, rows_end, rows_next}
@@ -50,12 +50,12 @@ loop-callback-preserved g c =
         rows_next s k l.number 0 (left (world_behind r)) row (left_rises r c.requires.legal) (sym c.in-Some.ensures),
         raised_at l.counts.left mine k (omega (arith, h, l.invariant.many)),
         ap (λ n. one_in n k) c.library_at.ensures.value,
-        ap (λ (x : Counted). at x.left k) c.add_left.ensures,
+        ap (λ (x : Tallied). at x.left k) c.add_left.ensures,
       );
-      many = ap (λ (x : Counted). length x.left) c.add_left.ensures ∙ length-set l.counts.left mine (at l.counts.left mine + 1) ∙ l.invariant.many;
+      many = ap (λ (x : Tallied). length x.left) c.add_left.ensures ∙ length-set l.counts.left mine (at l.counts.left mine + 1) ∙ l.invariant.many;
       same = c.add_left.ensures
-          ∙ ap (λ (x : Counted). record x { left = raised l.counts.left mine }) l.invariant.same
-          ∙ ap (λ t. record c.args.counts.now { left = t }) (sym (ap (λ (x : Counted). x.left) c.add_left.ensures));
+          ∙ ap (λ (x : Tallied). record x { left = raised l.counts.left mine }) l.invariant.same
+          ∙ ap (λ t. record c.args.counts.now { left = t }) (sym (ap (λ (x : Tallied). x.left) c.add_left.ensures));
     }
 
 pub returns-clause-left : goal.returns-clause-left

@@ -1,7 +1,7 @@
 use Rattle.std.proofs.Common.{◌≡◌, ℕ, ◌+◌, ◌≤◌, filter, length}
 use Rattle.recorded.specs.Recordings.{world_behind}
 use Rattle.tp_model.specs.Laws.Once.{left}
-use Rattle.tp_library.specs.Kept.{is_above, rows_in}
+use Rattle.tp_library.specs.Rows.{is_above, rows_in}
 use Rattle.tp_library.specs.Tallies.{at}
 use Rattle.tp_library.specs.declared.TheConstants.{LIBRARY_LIMIT}
 use Rattle.tp_library.proofs.book.count_above.Given as goal

@@ -1,8 +1,8 @@
 use Rattle.std.proofs.Common.{◌≡◌, ℕ, ◌+◌, ◌<◌, ◌≤◌, sym, ap, ◌∙◌, subst, arith}
 use Rattle.recorded.specs.Recordings.{world_behind}
 use Rattle.tp_model.specs.Laws.Once.{left}
-use Rattle.tp_library.specs.Beside.{Counted}
-use Rattle.tp_library.specs.Kept.{counted_left, rows_in}
+use Rattle.tp_library.specs.Tallied.{Tallied}
+use Rattle.tp_library.specs.Rows.{counted_left, rows_in}
 use Rattle.tp_library.specs.Tallies.{at}
 use Rattle.tp_library.specs.declared.told.Effect.{Effect}
 use Rattle.tp_library.proofs.Above.{cleared_at, closes_recounts, other_adds}
@@ -15,7 +15,7 @@ count_above-requires-clause-fits g c = λ k h.
     omega (
       arith,
       c.requires.fits k h,
-      ap (λ (x : Counted). at x.left k) c.clear_left.ensures,
+      ap (λ (x : Tallied). at x.left k) c.clear_left.ensures,
       cleared_at k,
       ap (λ (e : Effect). counted_left s k e c.args.first c.args.count rows c.args.counts.now.left) c.in-Closes.is,
       closes_recounts s k c.in-Closes.group c.in-Closes.cancelled c.args.first c.args.count rows c.args.counts.now.left c.if-cancelled-gt0.true,
@@ -43,7 +43,7 @@ returns-then-cancelled-gt0-clause-left g c = λ k h.
     omega (
       arith,
       c.count_above.ensures.left k h,
-      ap (λ (x : Counted). at x.left k) c.clear_left.ensures,
+      ap (λ (x : Tallied). at x.left k) c.clear_left.ensures,
       cleared_at k,
       ap (λ (e : Effect). counted_left s k e c.args.first c.args.count rows c.args.counts.now.left) c.in-Closes.is,
       closes_recounts s k c.in-Closes.group c.in-Closes.cancelled c.args.first c.args.count rows c.args.counts.now.left c.if-cancelled-gt0.true,

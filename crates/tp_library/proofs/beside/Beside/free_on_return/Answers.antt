@@ -1,7 +1,8 @@
 use Rattle.std.proofs.Common.{◌≡◌, ◌≢◌, ◌==◌, ◌∙◌, ℕ, refl, sym, ap, subst, true, false, arith}
 use Rattle.std.proofs.lemmas.Bool.Decides.{nat_tests}
-use Rattle.tp_library.specs.Beside.{Stocked}
-use Rattle.tp_library.specs.Kept.{stand_of, IsStep}
+use Rattle.tp_library.specs.Shelved.{Stocked}
+use Rattle.tp_library.specs.Kept.{stand_of}
+use Rattle.tp_library.specs.Stepped.{IsStep}
 use Rattle.tp_library.specs.declared.LibAnswer.TheVariants.{Done}
 use Rattle.tp_library.specs.declared.LibCall.TheVariants.{FreeOnReturn}
 use Rattle.tp_library.specs.Libraries.{slot_of}

@@ -1,5 +1,5 @@
 use Rattle.std.proofs.Common.{Bool, Global, Vec, ◌≡◌, ℕ, ◌≤◌, nat_lt, sym, ap, ◌∙◌, subst, arith}
-use Rattle.tp_library.specs.Beside.{Stocked}
+use Rattle.tp_library.specs.Shelved.{Stocked}
 use Rattle.tp_library.specs.Kept.{held_by, stand_of}
 use Rattle.tp_library.specs.Shelves.{Stand}
 use Rattle.tp_library.specs.declared.LibAnswer.{LibAnswer}
