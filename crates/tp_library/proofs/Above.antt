@@ -5,7 +5,7 @@ use Rattle.std.proofs.lemmas.Bool.Decides.{nat_tests}
 use Rattle.std.proofs.lemmas.List.{get_or-set_same, get_or-set_other}
 use Rattle.tp_model.specs.History.{IsLegal}
 use Rattle.tp_model.specs.Laws.Once.{left}
-use Rattle.recorded.specs.Recordings.{world_behind, Recording}
+use Rattle.recorded.specs.Recordings.{left_behind, world_behind, Recording}
 use Rattle.recorded.proofs.Walks.{AreRising}
 use Rattle.tp_base.specs.declared.ids.GroupId.{GroupId}
 use Rattle.tp_library.specs.Tallied.{none_held}
@@ -76,53 +76,31 @@ next_above number low (x ∷ xs) row r e =
     ] refl e
 
 -- what is counted with the next one
-pub rows_next : (s : Shelf) (library number low : ℕ) (rows : List Row) (row : Row) → AreRising low rows → find (is_above number) rows ≡ Some row
+rows_next : (s : Shelf) (library number low : ℕ) (rows : List Row) (row : Row) → AreRising low rows → find (is_above number) rows ≡ Some row
     → rows_in s library number rows ≡ one_in (library_at s row.0 row.1.0) library + rows_in s library row.0 rows
 rows_next s library number low rows row r e =
     ap (count_by (is_row_in s library)) (next_above number low rows row r e) ∙ count_cons (is_row_in s library) row (filter (is_above row.0) rows)
 
-pub rows_end : (s : Shelf) (library number : ℕ) (rows : List Row) → find (is_above number) rows ≡ None → rows_in s library number rows ≡ 0
+rows_end : (s : Shelf) (library number : ℕ) (rows : List Row) → find (is_above number) rows ≡ None → rows_in s library number rows ≡ 0
 rows_end s library number rows e = ap (count_by (is_row_in s library)) (none_above number rows e)
 
-pub fewer_above : (number low : ℕ) (rows : List Row) (row : Row) → AreRising low rows → find (is_above number) rows ≡ Some row → length (filter (is_above row.0) rows) < length (filter (is_above number) rows)
+fewer_above : (number low : ℕ) (rows : List Row) (row : Row) → AreRising low rows → find (is_above number) rows ≡ Some row → length (filter (is_above row.0) rows) < length (filter (is_above number) rows)
 fewer_above number low rows row r e = omega (arith, ap length (next_above number low rows row r e))
 
-pub left_rises : (r : Recording) → IsLegal r.limits r.capacity r.history → AreRising 0 (left (world_behind r))
-left_rises r legal = left_rise (length (world_behind r).callbacks + 1) (world_behind r) (reached r legal).sound
+-- ---- behind a recording
 
--- ---- tallies
+module _ (r : Recording) (legal : IsLegal r.limits r.capacity r.history) where
+  pub left_rises : AreRising 0 (left (world_behind r))
+  left_rises = left_rise (length (world_behind r).callbacks + 1) (world_behind r) (reached r legal).sound
 
-pub one_same : (library : ℕ) → one_in library library ≡ 1
-one_same library = grind (arith, nat_tests)
+  pub next_behind : (s : Shelf) (library number : ℕ) (row : Row) → Some row ≡ left_behind r number → rows_in s library number (left (world_behind r)) ≡ one_in (library_at s row.0 row.1.0) library + rows_in s library row.0 (left (world_behind r))
+  next_behind s library number row next = rows_next s library number 0 (left (world_behind r)) row left_rises (sym next)
 
-one_other : (mine library : ℕ) → (mine ≡ library → ⊥) → one_in mine library ≡ 0
-one_other mine library ne = grind (arith, nat_tests, ne)
+  pub end_behind : (s : Shelf) (library number : ℕ) → None ≡ left_behind r number → rows_in s library number (left (world_behind r)) ≡ 0
+  end_behind s library number none = rows_end s library number (left (world_behind r)) (sym none)
 
-pub raised_at : (tally : List ℕ) (mine library : ℕ) → library < length tally → at (raised tally mine) library ≡ at tally library + one_in mine library
-raised_at tally mine library h =
-    elim (mine == library) as (λ b. (mine == library) ≡ b → at (raised tally mine) library ≡ at tally library + cond b 1 0) [
-      | true ↦ λ is. let same : mine ≡ library = grind (arith, nat_tests, is) in
-          subst (λ l. at (raised tally mine) l ≡ at tally l + 1) same (get_or-set_same tally mine (at tally mine + 1) 0 (omega (arith, h, same)))
-      | false ↦ λ is. let other : library ≡ mine → ⊥ = grind (arith, nat_tests, is) in
-          get_or-set_other tally mine library (at tally mine + 1) 0 other ∙ omega arith
-    ] refl
-
-pub lowered_at : (tally : List ℕ) (mine library count : ℕ) → library < length tally → at (lowered tally mine count) library ≡ at tally library - cond (mine == library) count 0
-lowered_at tally mine library count h =
-    elim (mine == library) as (λ b. (mine == library) ≡ b → at (lowered tally mine count) library ≡ at tally library - cond b count 0) [
-      | true ↦ λ is. let same : mine ≡ library = grind (arith, nat_tests, is) in
-          subst (λ l. at (lowered tally mine count) l ≡ at tally l - count) same (get_or-set_same tally mine (at tally mine - count) 0 (omega (arith, h, same)))
-      | false ↦ λ is. let other : library ≡ mine → ⊥ = grind (arith, nat_tests, is) in
-          get_or-set_other tally mine library (at tally mine - count) 0 other ∙ omega arith
-    ] refl
-
-none_at : (n k : ℕ) → at (replicate n 0) k ≡ 0
-none_at zero k = refl
-none_at (suc n) zero = refl
-none_at (suc n) (suc k) = none_at n k
-
-pub cleared_at : (library : ℕ) → at none_held library ≡ 0
-cleared_at library = none_at (LIBRARY_LIMIT + 1) library
+  pub fewer_behind : (number : ℕ) (row : Row) → Some row ≡ left_behind r number → length (filter (is_above row.0) (left (world_behind r))) < length (filter (is_above number) (left (world_behind r)))
+  fewer_behind number row next = fewer_above number 0 (left (world_behind r)) row left_rises (sym next)
 
 -- ---- what is counted after an effect
 

@@ -7,15 +7,11 @@ use Rattle.std.proofs.lemmas.Bool.Decides.{nat_tests}
 use Rattle.std.specs.Ordering.{ordering_index}
 use Rattle.std.specs.declared.cmp.Ordering.TheVariants.{Less, Equal, Greater}
 use Rattle.std.specs.List.Sorted.{IsNonDecreasingBy, IsPartitionPoint}
+use Rattle.tp_library.proofs.Tallies.{none_at}
 use Rattle.tp_library.specs.Tallied.{none_held}
 use Rattle.tp_library.specs.Shelved.{IsBefore, IsShelved}
 use Rattle.tp_library.specs.Tallies.{at}
 use Rattle.tp_library.specs.declared.TheConstants.{LIBRARY_LIMIT, LOAD_LIMIT}
-
-none_at : (n k : ℕ) → at (replicate n 0) k ≡ 0
-none_at zero k = refl
-none_at (suc n) zero = refl
-none_at (suc n) (suc k) = none_at n k
 
 pub nothing_shelved : (loads of_object : List ℕ) (of_simple : List (ℕ × ℕ)) (slots : List ℕ) (workers : ℕ)
     → loads ≡ none_held → of_object ≡ [] → of_simple ≡ [] → slots ≡ replicate workers 0 → IsShelved loads of_object of_simple slots

@@ -14,6 +14,7 @@ use Rattle.tp_base.specs.Ranges.{AreLimitsInRange}
 use Rattle.tp_model.specs.World.{opening, unattached, unfinished, World}
 use Rattle.tp_model.proofs.Fitting.{legal_fits}
 use Rattle.recorded.specs.Recordings.{world_behind, Recording}
+use Rattle.tp_library.proofs.Tallies.{none_at}
 use Rattle.tp_library.specs.Acting.{opening_actors}
 use Rattle.tp_library.specs.Tallied.{none_held, opening_counts, row_of}
 use Rattle.tp_library.specs.Kept.{held_by, run_in, stand_of, AreOpened, IsKept}
@@ -72,11 +73,6 @@ pub not_held : (n : ℕ) → not (nat_lt 0 n) ≡ (n == 0)
 not_held n = grind (arith, nat_tests)
 
 -- ---- where nothing was done
-
-none_at : (n k : ℕ) → at (replicate n 0) k ≡ 0
-none_at zero k = refl
-none_at (suc n) zero = refl
-none_at (suc n) (suc k) = none_at n k
 
 none_before : (n k : ℕ) → get_or (replicate n false) k false ≡ false
 none_before zero k = refl

@@ -25,4 +25,5 @@ pub mod Shelving
 pub mod Staying
 pub mod Stepping
 pub mod Summing
+pub mod Tallies
 pub mod Telling

@@ -21,7 +21,7 @@ use Rattle.tp_library.specs.Noted.{without_run}
 use Rattle.tp_library.specs.Shelves.{library_at, library_of, library_of_object, objects_in, Shelf}
 use Rattle.tp_library.specs.Tallies.{at, lowered, raised}
 use Rattle.tp_library.specs.declared.TheConstants.{LIBRARY_LIMIT}
-use Rattle.tp_library.proofs.Above.{cleared_at, lowered_at, raised_at}
+use Rattle.tp_library.proofs.Tallies.{cleared_at, lowered_at, raised_at}
 use Rattle.tp_library.proofs.Acting.{run_found}
 use Rattle.tp_library.proofs.Stepping.{numbered_map}
 use Rattle.tp_library.proofs.Effects.{IsCut, IsKeptRow, IsReturned, IsSame, IsTaken}

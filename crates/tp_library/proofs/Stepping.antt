@@ -31,7 +31,7 @@ numbered_map {A} {B} f xs number =
       | false ↦ slice_get-map f xs (number - 1)
     ]
 
-some_map : {A B : Type 0} (f : A → B) (o : Option A) → is_some (option_map f o) ≡ is_some o
+pub some_map : {A B : Type 0} (f : A → B) (o : Option A) → is_some (option_map f o) ≡ is_some o
 some_map f None = refl
 some_map f (Some x) = refl
 

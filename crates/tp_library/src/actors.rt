@@ -7,6 +7,7 @@ use std::alloc::{AllocError, Global};
 use std::marker::Model;
 use tp_base::ids::{ObjectId, Who};
 
+/// Who has finished, and who runs what.
 #[derive(Drop)]
 pub(crate) struct Actors {
     // By client, from 1 on: whether it has finished.
@@ -79,14 +80,7 @@ impl Actors {
     pub(crate) fn is_running(&self, who: Who) -> bool
         ensures { result ≡ is_some (run_of self.now who) }
     {
-        match who {
-            Who::Client(_) => false,
-            Who::Worker(0) => false,
-            Who::Worker(number) => match self.runs.get(number as usize - 1) {
-                Some(run) => run.is_some(),
-                None => false,
-            },
-        }
+        self.run(who).is_some()
     }
 
     /// A client makes no further call.

@@ -10,6 +10,7 @@ use std::alloc::{AllocError, Global};
 use std::marker::Model;
 use tp_base::ids::{GroupId, ObjectId};
 
+/// Of each library how many objects and callbacks there are.
 #[derive(Drop)]
 pub(crate) struct Counts {
     // Its objects that aren't released; of its callbacks those that may still run; and those that run.

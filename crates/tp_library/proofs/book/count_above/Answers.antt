@@ -8,7 +8,8 @@ use Rattle.tp_library.specs.Counted.{one_in}
 use Rattle.tp_library.specs.Rows.{is_above, rows_in}
 use Rattle.tp_library.specs.Tallies.{at, raised}
 use Rattle.tp_library.specs.declared.TheConstants.{LIBRARY_LIMIT}
-use Rattle.tp_library.proofs.Above.{fewer_above, left_rises, one_same, raised_at, rows_end, rows_next}
+use Rattle.tp_library.proofs.Above.{end_behind, fewer_behind, next_behind}
+use Rattle.tp_library.proofs.Tallies.{one_same, raised_at}
 use Rattle.tp_library.proofs.book.count_above.Goals as goal
 
 pub loop-callback-init : goal.loop-callback-init
@@ -25,7 +26,7 @@ add_left-requires-clause-fits g c =
       arith,
       l.invariant.counted mine c.library_at.ensures.most,
       c.requires.fits mine c.library_at.ensures.most,
-      rows_next s mine l.number 0 (left (world_behind r)) row (left_rises r c.requires.legal) (sym c.in-Some.ensures),
+      next_behind r c.requires.legal s mine l.number row c.in-Some.ensures,
       ap (λ n. one_in n mine) c.library_at.ensures.value,
       one_same mine,
     )
@@ -34,7 +35,7 @@ pub loop-callback-smaller : goal.loop-callback-smaller
 loop-callback-smaller g c =
     let r = g.B.Recorded.recording c.args.book.now in
     let row = row_of (c.in-Some.callback, c.in-Some.object, c.in-Some.field-0-2) in
-    fewer_above c.loop-callback.number 0 (left (world_behind r)) row (left_rises r c.requires.legal) (sym c.in-Some.ensures)
+    fewer_behind r c.requires.legal c.loop-callback.number row c.in-Some.ensures
 
 pub loop-callback-preserved : goal.loop-callback-preserved
 loop-callback-preserved g c =
@@ -47,7 +48,7 @@ loop-callback-preserved g c =
       counted = λ k h. omega (
         arith,
         l.invariant.counted k h,
-        rows_next s k l.number 0 (left (world_behind r)) row (left_rises r c.requires.legal) (sym c.in-Some.ensures),
+        next_behind r c.requires.legal s k l.number row c.in-Some.ensures,
         raised_at l.counts.left mine k (omega (arith, h, l.invariant.many)),
         ap (λ n. one_in n k) c.library_at.ensures.value,
         ap (λ (x : Tallied). at x.left k) c.add_left.ensures,
@@ -61,7 +62,7 @@ loop-callback-preserved g c =
 pub returns-clause-left : goal.returns-clause-left
 returns-clause-left g c = λ k h.
     let r = g.B.Recorded.recording c.args.book.now in
-    omega (arith, c.loop-callback.invariant.counted k h, rows_end c.args.shelf.now.shelf k c.loop-callback.number (left (world_behind r)) (sym c.in_default.ensures))
+    omega (arith, c.loop-callback.invariant.counted k h, end_behind r c.requires.legal c.args.shelf.now.shelf k c.loop-callback.number c.in_default.ensures)
 
 pub returns-clause-same : goal.returns-clause-same
 returns-clause-same g c = c.loop-callback.invariant.same

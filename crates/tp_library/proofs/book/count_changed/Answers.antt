@@ -5,7 +5,8 @@ use Rattle.tp_library.specs.Tallied.{Tallied}
 use Rattle.tp_library.specs.Rows.{counted_left, rows_in}
 use Rattle.tp_library.specs.Tallies.{at}
 use Rattle.tp_library.specs.declared.told.Effect.{Effect}
-use Rattle.tp_library.proofs.Above.{cleared_at, closes_recounts, other_adds}
+use Rattle.tp_library.proofs.Above.{closes_recounts, other_adds}
+use Rattle.tp_library.proofs.Tallies.{cleared_at}
 use Rattle.tp_library.proofs.book.count_changed.Goals as goal
 
 pub count_above-requires-clause-fits : goal.count_above-requires-clause-fits
