@@ -19,6 +19,10 @@ use Rattle.tp_library.specs.Acting.{opening_actors}
 use Rattle.tp_library.specs.Tallied.{none_held, opening_counts, row_of}
 use Rattle.tp_library.specs.Kept.{held_by, run_in, stand_of, AreOpened, IsKept}
 use Rattle.tp_library.specs.Libraries.{is_unloaded, IsLibrary}
+use Rattle.tp_base.specs.declared.ids.Who.{Who}
+use Rattle.tp_library.specs.Stepped.{IsStep}
+use Rattle.tp_library.specs.declared.LibAnswer.{LibAnswer}
+use Rattle.tp_library.specs.declared.LibCall.{LibCall}
 use Rattle.tp_library.specs.Seen.{was_held, was_unloaded, Seen}
 use Rattle.tp_library.specs.Shelves.{callbacks_in, holds, is_callback_in, is_object_in, objects_in, Shelf}
 use Rattle.tp_library.specs.Tallies.{at}
@@ -160,3 +164,9 @@ pub unloaded_between : (r q : Recording) (b new : Beside) → IsKept r b → ((l
     → (library : ℕ) → IsLibrary library → was_unloaded (record { stand = stand_of q new; before = new.before.items }) library ≡ is_unloaded (stand_of r b) (stand_of q new) library
 unloaded_between r q b new k before library is =
     ap (λ x. x && (holds (stand_of q new) library == 0)) (before library (omega (arith, is.1)) ∙ ap (nat_lt 0) (holds_as r b k library (omega (arith, is.1))))
+
+-- and a call of libraries alone
+pub unloaded_stepped : (r : Recording) (b remembered new : Beside) (who : Who) (call : LibCall) (told : LibAnswer) → IsKept r b → ((library : ℕ) → library ≤ LIBRARY_LIMIT → was_held remembered.before.items library ≡ nat_lt 0 (held_by b library))
+    → IsStep remembered who call new told → (library : ℕ) → IsLibrary library → was_unloaded (record { stand = stand_of r new; before = new.before.items }) library ≡ is_unloaded (stand_of r b) (stand_of r new) library
+unloaded_stepped r b remembered new who call told k before step =
+    unloaded_between r r b new k (λ library h. ap (λ (x : Beside). was_held x.before.items library) step.same ∙ before library h)

@@ -6,10 +6,11 @@ use Rattle.tp_model.specs.Over.{row_of}
 use Rattle.tp_library.specs.Tallied.{with_left, Tallied}
 use Rattle.tp_library.specs.Counted.{one_in}
 use Rattle.tp_library.specs.Rows.{is_above, rows_in}
+use Rattle.tp_library.specs.Shelves.{library_at}
 use Rattle.tp_library.specs.Tallies.{at, raised}
 use Rattle.tp_library.specs.declared.TheConstants.{LIBRARY_LIMIT}
 use Rattle.tp_library.proofs.Above.{end_behind, fewer_behind, next_behind}
-use Rattle.tp_library.proofs.Tallies.{one_same, raised_at}
+use Rattle.tp_library.proofs.Tallies.{left_alone, left_many, left_raised, one_as, one_same}
 use Rattle.tp_library.proofs.book.count_above.Goals as goal
 
 pub loop-callback-init : goal.loop-callback-init
@@ -27,7 +28,7 @@ add_left-requires-clause-fits g c =
       l.invariant.counted mine c.library_at.ensures.most,
       c.requires.fits mine c.library_at.ensures.most,
       next_behind r c.requires.legal s mine l.number row c.in-Some.ensures,
-      ap (λ n. one_in n mine) c.library_at.ensures.value,
+      one_as mine (library_at s c.in-Some.callback c.in-Some.object.0) mine c.library_at.ensures.value,
       one_same mine,
     )
 
@@ -49,14 +50,11 @@ loop-callback-preserved g c =
         arith,
         l.invariant.counted k h,
         next_behind r c.requires.legal s k l.number row c.in-Some.ensures,
-        raised_at l.counts.left mine k (omega (arith, h, l.invariant.many)),
-        ap (λ n. one_in n k) c.library_at.ensures.value,
-        ap (λ (x : Tallied). at x.left k) c.add_left.ensures,
+        left_raised c.args.counts.now l.counts c.add_left.new.self mine c.add_left.ensures k (omega (arith, h, l.invariant.many)),
+        one_as mine (library_at s c.in-Some.callback c.in-Some.object.0) k c.library_at.ensures.value,
       );
-      many = ap (λ (x : Tallied). length x.left) c.add_left.ensures ∙ length-set l.counts.left mine (at l.counts.left mine + 1) ∙ l.invariant.many;
-      same = c.add_left.ensures
-          ∙ ap (λ (x : Tallied). record x { left = raised l.counts.left mine }) l.invariant.same
-          ∙ ap (λ t. record c.args.counts.now { left = t }) (sym (ap (λ (x : Tallied). x.left) c.add_left.ensures));
+      many = left_many c.args.counts.now l.counts c.add_left.new.self mine c.add_left.ensures l.invariant.many;
+      same = left_alone c.args.counts.now l.counts c.add_left.new.self mine c.add_left.ensures l.invariant.same;
     }
 
 pub returns-clause-left : goal.returns-clause-left

@@ -3,12 +3,12 @@ use Rattle.tp_library.specs.Shelved.{Stocked}
 use Rattle.tp_library.specs.Kept.{held_by, stand_of}
 use Rattle.tp_library.specs.Shelves.{Stand}
 use Rattle.tp_library.specs.declared.LibAnswer.{LibAnswer}
-use Rattle.tp_library.specs.declared.LibCall.TheVariants.{Pool}
+use Rattle.tp_library.specs.declared.LibCall.TheVariants.{Free, FreeOnReturn, Load, Pool}
 use Rattle.tp_library.specs.Libraries.{is_unloaded, step_at, IsLibrary}
 use Rattle.tp_library.specs.Seen.{was_held, was_unloaded}
 use Rattle.tp_library.specs.declared.beside.Beside.{Beside}
 use Rattle.tp_library.specs.declared.TheConstants.{LIBRARY_LIMIT}
-use Rattle.tp_library.proofs.Keeping.{unloaded_between}
+use Rattle.tp_library.proofs.Keeping.{unloaded_between, unloaded_stepped}
 use Rattle.tp_library.proofs.Loaded.{loaded}
 use Rattle.tp_library.proofs.book.LibraryBook.step.Goals as goal
 
@@ -25,22 +25,19 @@ pub returns-in-Load-clause-unloaded : goal.returns-in-Load-clause-unloaded
 returns-in-Load-clause-unloaded g c =
     let r = g.B.Recorded.recording c.self.inside.book in
     rw (← c.self.view_is)
-    (unloaded_between r r c.self.inside.beside c.load.new.self c.self.invariant
-    (λ l h. ap (λ (b : Beside). was_held b.before.items l) c.load.ensures.same ∙ c.remember.ensures.held l h))
+    (unloaded_stepped r c.self.inside.beside c.remember.new.self c.load.new.self c.args.who (Load c.in-Load.library) c.load.result c.self.invariant c.remember.ensures.held c.load.ensures)
 
 pub returns-in-Free-clause-unloaded : goal.returns-in-Free-clause-unloaded
 returns-in-Free-clause-unloaded g c =
     let r = g.B.Recorded.recording c.self.inside.book in
     rw (← c.self.view_is)
-    (unloaded_between r r c.self.inside.beside c.free.new.self c.self.invariant
-    (λ l h. ap (λ (b : Beside). was_held b.before.items l) c.free.ensures.same ∙ c.remember.ensures.held l h))
+    (unloaded_stepped r c.self.inside.beside c.remember.new.self c.free.new.self c.args.who (Free c.in-Free.library) c.free.result c.self.invariant c.remember.ensures.held c.free.ensures)
 
 pub returns-in-FreeOnReturn-clause-unloaded : goal.returns-in-FreeOnReturn-clause-unloaded
 returns-in-FreeOnReturn-clause-unloaded g c =
     let r = g.B.Recorded.recording c.self.inside.book in
     rw (← c.self.view_is)
-    (unloaded_between r r c.self.inside.beside c.free_on_return.new.self c.self.invariant
-    (λ l h. ap (λ (b : Beside). was_held b.before.items l) c.free_on_return.ensures.same ∙ c.remember.ensures.held l h))
+    (unloaded_stepped r c.self.inside.beside c.remember.new.self c.free_on_return.new.self c.args.who (FreeOnReturn c.in-FreeOnReturn.library) c.free_on_return.result c.self.invariant c.remember.ensures.held c.free_on_return.ensures)
 
 pub returns-in-Pool-clause-answer : goal.returns-in-Pool-clause-answer
 returns-in-Pool-clause-answer g c =
