@@ -10,7 +10,7 @@ use Rattle.tp_model.specs.Support.Sound.{IsRising}
 abbrev Row : Type 0
 Row = ℕ × ObjectId × Status
 
-abbrev above : ℕ → Row → Bool
+abbrev pub above : ℕ → Row → Bool
 above number row = nat_lt number row.0
 
 -- the numbers rise, and are above this one
@@ -32,10 +32,10 @@ pub record IsWalked (all shown : List Row) (number : ℕ) : Type 0 where
   pub passed : find (above number) shown ≡ None
   pub rising : AreRising number rest
 
-lt_true : (a b : ℕ) → a < b → nat_lt a b ≡ true
+pub lt_true : (a b : ℕ) → a < b → nat_lt a b ≡ true
 lt_true a b h = grind (arith, h)
 
-lt_false : (a b : ℕ) → b ≤ a → nat_lt a b ≡ false
+pub lt_false : (a b : ℕ) → b ≤ a → nat_lt a b ≡ false
 lt_false a b h = grind (arith, h)
 
 -- what is found above a number is above a lower one too

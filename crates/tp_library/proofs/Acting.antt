@@ -26,12 +26,6 @@ get_within [] (suc i) = grind arith
 get_within (x ∷ xs) zero = grind arith
 get_within (x ∷ xs) (suc i) = get_within xs i ∙ grind arith
 
-get_mapped : {X Y : Type 0} (f : X → Y) (xs : List X) (i : ℕ) (d : Y) → option_map_or f (slice_get xs i) d ≡ get_or (map f xs) i d
-get_mapped f [] zero d = refl
-get_mapped f [] (suc i) d = refl
-get_mapped f (x ∷ xs) zero d = refl
-get_mapped f (x ∷ xs) (suc i) d = get_mapped f xs i d
-
 not_zero : (n : ℕ) → (suc n == 0) ≡ false
 not_zero n = grind arith
 

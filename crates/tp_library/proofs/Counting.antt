@@ -13,7 +13,7 @@ use Rattle.tp_model.specs.Laws.Once.{is_left, left}
 use Rattle.tp_model.specs.Support.Sound.{IsRising}
 use Rattle.tp_model.specs.Waits.{cancel_where, cancelled}
 use Rattle.tp_model.specs.World.{World}
-use Rattle.tp_model.proofs.Callbacks.{length_filter_replaced}
+use Rattle.tp_model.proofs.Callbacks.{length_filter_replaced, pending_not_running}
 use Rattle.tp_model.proofs.Cancelling.{cancelled_if, IsPendingTest}
 use Rattle.tp_model.proofs.Refusals.{and_false, and_true, false_true}
 use Rattle.tp_library.specs.Counted.{is_left_in, is_run_in, left_in, runs_in}
@@ -56,10 +56,6 @@ count_same p r c low next_number cs rises found alike =
 pub pending_left : (s : Status) → is_pending s ≡ true → is_left s ≡ true
 pending_left Pending e = refl
 pending_left _ e = absurd (false_true e)
-
-pub pending_unrun : (s : Status) → is_pending s ≡ true → is_running s ≡ false
-pending_unrun Pending e = refl
-pending_unrun _ e = absurd (false_true e)
 
 live_parts : (s : Status) (b : Bool) → cond (is_live s && b) 1 0 ≡ cond (is_left s && b) 1 0 + cond (is_running s && b) 1 0
 live_parts Expected true = refl
@@ -139,7 +135,7 @@ module _ (s : Shelf) (library : ℕ) (test : CallbackRow → Bool) (only : IsPen
   one_cut c false is = omega arith
 
   one_unrun : (c : CallbackRow) (b : Bool) → test c ≡ b → is_run_in s library (cond b (cancelled c) c) ≡ is_run_in s library c
-  one_unrun c true is = sym (ap (λ b. b && (library_of s c == library)) (pending_unrun c.status (only c is)))
+  one_unrun c true is = sym (ap (λ b. b && (library_of s c == library)) (pending_not_running c.status (only c is)))
   one_unrun c false is = refl
 
   -- what is cancelled may not run any more

@@ -103,9 +103,6 @@ at_home w who call a new taken all simples = subst (λ b. AllByRecursion (HasHom
 -- ---- an entry of a legal history
 
 module _ (limits : Limits) (w : World) (left : ℕ) (who : Who) (call : Call) (a : Answer) (sound : IsSound (next_number_in w) w) (few : AreFew limits w) (told : outcome_of (step w left who call) ≡ outcome.Done a) where
-  abbrev pub entry_of : Entry
-  entry_of = record { who = who; call = call; answer = a }
-
   -- all that doesn't depend on what the change is
   moved : (after : World) → LeadsOn w (record { who = who; call = call; answer = a }) after → AreFew limits after → after.objects ≡ objects_told call a w.objects → WasUnreleased w call a → finished_in after ≡ finished_told who call a (finished_in w)
       → ((m : Moves (next_number_in w) w (record { who = who; call = call; answer = a }) after) → IsKept w who call a m.kept × AllByRecursion (HasHome w call) m.new × IsSimple w call a m.new)

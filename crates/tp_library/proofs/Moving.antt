@@ -22,11 +22,12 @@ use Rattle.tp_model.specs.Support.Moves.{asked_slots, Amend, Amends, Attach, Can
 use Rattle.tp_model.specs.Support.Sound.{IsRising}
 use Rattle.tp_model.specs.Support.Told.{Deed, deed_of}
 use Rattle.tp_model.specs.World.{unattached, World}
+use Rattle.tp_model.proofs.Callbacks.{pending_not_running}
 use Rattle.tp_model.proofs.Lists.{find_passes}
 use Rattle.tp_model.proofs.Refusals.{numbered_at, numbered_some}
 use Rattle.tp_library.specs.Counted.{is_left_in, is_run_in, left_in, runs_in, runs_of, runs_told}
 use Rattle.tp_library.specs.Shelves.{library_at, library_of, Shelf}
-use Rattle.tp_library.proofs.Counting.{as_one, count_replaced, count_same, pending_left, pending_unrun, runs_uncut, uncut}
+use Rattle.tp_library.proofs.Counting.{as_one, count_replaced, count_same, pending_left, runs_uncut, uncut}
 use Rattle.tp_library.proofs.Effects.{IsGroupCut, IsReturned, IsSame, IsTaken}
 
 pub some_same : {X : Type 0} (x y : X) → Some x ≡ Some y → x ≡ y
@@ -183,7 +184,7 @@ module _ (w : World) (next_number : ℕ) (rises : IsRising 1 next_number w.callb
               arith,
               count_replaced (is_run_in s library) (taken m.callback m.worker) m.callback 1 next_number w.callbacks rises m.found,
               ap (runs_in s library) m.callbacks,
-              ap (λ b. as_one (b && (library_of s m.callback == library))) (pending_unrun m.callback.status m.waits),
+              ap (λ b. as_one (b && (library_of s m.callback == library))) (pending_not_running m.callback.status m.waits),
               ap (λ n. as_one (n == library)) (lib s),
             );
           }

@@ -1,5 +1,5 @@
 -- The callbacks that a call makes: their numbers, and how they are found among what is left.
-use Rattle.std.proofs.Common.{◌≡◌, ℕ, zero, suc, ◌+◌, ◌<◌, ◌≤◌, Bool, true, false, cond, ◌&&◌, ◌==◌, List, [], ◌∷◌, ◌++◌, length, map, nat_lt, Some, refl, sym, ap, ap₂, ◌∙◌, arith, filter, find, eq-eqb, ne_eqb, slice_get}
+use Rattle.std.proofs.Common.{◌≡◌, ℕ, zero, suc, ◌+◌, ◌<◌, Bool, true, false, cond, ◌&&◌, ◌==◌, List, [], ◌∷◌, ◌++◌, length, map, nat_lt, Some, refl, sym, ap, ap₂, ◌∙◌, arith, filter, find, eq-eqb, ne_eqb, slice_get}
 use Rattle.std.specs.List.{AllByRecursion, count_by, range_with_len}
 use Rattle.std.proofs.lemmas.List.FromFn.{length-range_with_len}
 use Rattle.tp_base.specs.declared.ids.ObjectId.{ObjectId}
@@ -14,7 +14,7 @@ use Rattle.tp_model.specs.World.{World}
 use Rattle.tp_model.proofs.Callbacks.{found_bounds, rising_filter}
 use Rattle.tp_model.proofs.Lists.{all_along}
 use Rattle.tp_model.proofs.Refusals.{false_true}
-use Rattle.recorded.proofs.Walks.{AreRising, rows_rise, row_at}
+use Rattle.recorded.proofs.Walks.{above, AreRising, lt_false, lt_true, row_at, rows_rise}
 use Rattle.tp_library.specs.Counted.{is_left_in, is_run_in, left_in, runs_in}
 use Rattle.tp_library.specs.Shelves.{library_of, Shelf}
 use Rattle.tp_library.proofs.Counting.{count_agree, count_none}
@@ -39,15 +39,6 @@ place_found low next_number (d ∷ cs) rises (suc i) c at =
     ap (λ b. cond b (Some d) (find (has_number c.number) cs)) (ne_eqb d.number c.number (λ e. omega (arith, e, bounds.0))) ∙ rest
 
 -- ---- what is left, by number
-
-abbrev above : ℕ → ℕ × ObjectId × Status → Bool
-above number row = nat_lt number row.0
-
-lt_true : (a b : ℕ) → a < b → nat_lt a b ≡ true
-lt_true a b h = grind (arith, h)
-
-lt_false : (a b : ℕ) → b ≤ a → nat_lt a b ≡ false
-lt_false a b h = grind (arith, h)
 
 abbrev rows_left : List CallbackRow → List (ℕ × ObjectId × Status)
 rows_left cs = map row_at (filter (λ (c : CallbackRow). is_left c.status) cs)

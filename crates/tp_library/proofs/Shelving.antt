@@ -3,7 +3,6 @@ use Rattle.std.proofs.Common.{◌≡◌, ℕ, ◌+◌, ◌<◌, true, false, con
 use Rattle.std.specs.List.{AllByRecursion}
 use Rattle.tp_base.specs.declared.answers.Answer.{Answer}
 use Rattle.tp_base.specs.declared.answers.Answer.TheVariants.{Made, Queued}
-use Rattle.tp_base.specs.declared.answers.Entry.{Entry}
 use Rattle.tp_base.specs.declared.calls.Call.{Call}
 use Rattle.tp_base.specs.declared.calls.Call.TheVariants.{Create, SubmitSimple}
 use Rattle.tp_base.specs.declared.ids.ObjectId.{ObjectId}
@@ -62,9 +61,6 @@ simples_below w call library a new most simple below = tt
 -- ---- the shelf behind a call
 
 module _ (w : World) (who : Who) (call : Call) (a : Answer) (after : World) (sound : IsSound (length w.callbacks + 1) w) (m : Moves (length w.callbacks + 1) w (record { who = who; call = call; answer = a }) after) where
-  entry : Entry
-  entry = record { who = who; call = call; answer = a }
-
   still : AreStill (IsPlaced (length w.callbacks + 1) (length w.objects)) w.callbacks m.kept
   still = move_still (IsPlaced (length w.callbacks + 1) (length w.objects)) w (all_placed (length w.callbacks + 1) w sound) (record { who = who; call = call; answer = a }) m.kept after.workers m.move
 
