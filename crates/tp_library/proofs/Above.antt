@@ -1,21 +1,18 @@
 -- The callbacks above a number, as they are gone through.
-use Rattle.std.proofs.Common.{◌≡◌, ℕ, ◌+◌, ◌-◌, ◌==◌, ◌<◌, ◌≤◌, Bool, true, false, cond, List, [], ◌∷◌, length, nat_lt, Option, Some, None, refl, sym, ap, ◌∙◌, subst, arith, find, filter, get_or, replicate, zero, suc}
+use Rattle.std.proofs.Common.{◌≡◌, ℕ, ◌+◌, ◌-◌, ◌<◌, ◌≤◌, true, false, cond, List, [], ◌∷◌, length, nat_lt, Some, None, refl, sym, ap, ◌∙◌, subst, arith, find, filter}
 use Rattle.std.specs.List.{count_by}
 use Rattle.std.proofs.lemmas.Bool.Decides.{nat_tests}
-use Rattle.std.proofs.lemmas.List.{get_or-set_same, get_or-set_other}
 use Rattle.tp_model.specs.History.{IsLegal}
 use Rattle.tp_model.specs.Laws.Once.{left}
 use Rattle.recorded.specs.Recordings.{left_behind, world_behind, Recording}
 use Rattle.recorded.proofs.Walks.{AreRising}
 use Rattle.tp_base.specs.declared.ids.GroupId.{GroupId}
-use Rattle.tp_library.specs.Tallied.{none_held}
 use Rattle.tp_library.specs.Counted.{one_in}
 use Rattle.tp_library.specs.declared.told.Effect.{Effect}
 use Rattle.tp_library.specs.declared.told.Effect.TheVariants.{Closes}
-use Rattle.tp_library.specs.declared.TheConstants.{LIBRARY_LIMIT}
 use Rattle.tp_library.specs.Rows.{counted_left, is_above, is_row_in, rows_in, Row}
 use Rattle.tp_library.specs.Shelves.{library_at, Shelf}
-use Rattle.tp_library.specs.Tallies.{at, lowered, raised}
+use Rattle.tp_library.specs.Tallies.{at}
 use Rattle.tp_library.proofs.Counting.{count_cons}
 use Rattle.tp_library.proofs.EffectsOf.{reached}
 use Rattle.tp_library.proofs.News.{left_rise}

@@ -1,5 +1,5 @@
 -- A call of the machine that is answered, and what is kept beside it then.
-use Rattle.std.proofs.Common.{Bool, Global, Vec, ◌≡◌, ℕ, ◌+◌, ◌*◌, ◌<◌, ◌≤◌, ◌==◌, ◌^◌, List, [], ◌∷◌, ◌++◌, length, refl, sym, ap, ◌∙◌, subst, arith, length-append}
+use Rattle.std.proofs.Common.{Bool, Global, Vec, ◌≡◌, ℕ, ◌+◌, ◌<◌, ◌≤◌, ◌^◌, [], ◌∷◌, length, sym, ap, ◌∙◌, subst, arith, length-append}
 use Rattle.std.specs.Prelude.{map}
 use Rattle.std.specs.List.{count_by, range_with_len}
 use Rattle.std.proofs.lemmas.List.Sums.{count_by-le-length}
@@ -7,36 +7,33 @@ use Rattle.tp_base.specs.declared.answers.Answer.{Answer}
 use Rattle.tp_base.specs.declared.answers.Outcome.TheVariants as outcome
 use Rattle.tp_base.specs.declared.calls.Call.{Call}
 use Rattle.tp_base.specs.declared.ids.Who.{Who}
-use Rattle.tp_base.specs.declared.rows.CallbackRow.{CallbackRow}
 use Rattle.tp_base.specs.declared.rows.ObjectRow.{ObjectRow}
 use Rattle.tp_base.specs.Ranges.{IsAnswerInRange}
-use Rattle.tp_model.specs.History.{IsLegal}
 use Rattle.tp_model.specs.Laws.Entries.{made_by}
 use Rattle.tp_model.specs.Laws.Once.{left}
 use Rattle.tp_model.specs.World.{World}
 use Rattle.tp_model.proofs.Fitting.{legal_fits}
 use Rattle.recorded.specs.Recordings.{outcome_behind, recorded, world_behind, Recording}
 use Rattle.tp_library.specs.Tallied.{row_of, Tallied}
-use Rattle.tp_library.specs.Counted.{is_left_in, left_in, members_in, on_objects, runs_in, IsShelfOf}
+use Rattle.tp_library.specs.Counted.{is_left_in, left_in, on_objects, runs_in, IsShelfOf}
 use Rattle.tp_library.specs.Effecting.{effect_of}
-use Rattle.tp_library.specs.Kept.{stand_of, IsCounted, IsKept}
+use Rattle.tp_library.specs.Kept.{IsCounted, IsKept}
 use Rattle.tp_library.specs.Noted.{CanNote, IsNoted}
 use Rattle.tp_library.specs.Rows.{counted_left, is_row_in, rows_in}
 use Rattle.tp_library.specs.Libraries.{shelf_answered}
-use Rattle.tp_library.specs.Shelves.{objects_in, Shelf, Stand}
+use Rattle.tp_library.specs.Shelves.{Shelf}
 use Rattle.tp_library.specs.Tallies.{at}
 use Rattle.tp_library.specs.declared.beside.Beside.{Beside}
-use Rattle.tp_library.specs.declared.told.Effect.{Effect}
 use Rattle.tp_library.specs.declared.TheConstants.{LIBRARY_LIMIT}
 use Rattle.tp_library.proofs.Above.{all_above, left_rises}
 use Rattle.tp_library.proofs.Asking.{answered, can_note_by, counted_by, group_by, news_by, simple_by}
-use Rattle.tp_library.proofs.Counting.{left_appended, left_listed, runs_appended}
+use Rattle.tp_library.proofs.Counting.{left_listed, runs_appended}
 use Rattle.tp_library.proofs.Effected.{groups_applied, groups_by, said_by, shelf_by, shelf_is, By}
-use Rattle.tp_library.proofs.Effects.{Effects, IsNewAt, IsShelfKept}
-use Rattle.tp_library.proofs.EffectsOf.{callbacks_few, effects_of, legal_after}
+use Rattle.tp_library.proofs.Effects.{Effects, IsShelfKept}
+use Rattle.tp_library.proofs.EffectsOf.{callbacks_few, legal_after}
 use Rattle.tp_library.proofs.Grouping.{named_group}
 use Rattle.tp_library.proofs.Holding.{held, Held}
-use Rattle.tp_library.proofs.Keeping.{few_callbacks, few_entries}
+use Rattle.tp_library.proofs.Keeping.{few_callbacks}
 use Rattle.tp_library.proofs.News.{range_same}
 use Rattle.tp_library.proofs.Noted.{actors_noted, cancelled_of, left_noted, owned_noted, rest_noted, running_noted, IsRest}
 use Rattle.tp_library.proofs.Noting.{AreCounted, AreOwned}

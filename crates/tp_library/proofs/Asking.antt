@@ -1,6 +1,6 @@
 -- A call of the machine, and what is kept beside it.
-use Rattle.std.proofs.Common.{◌≡◌, ℕ, ◌+◌, ◌-◌, ◌*◌, ◌<◌, ◌≤◌, ◌==◌, ◌^◌, Bool, true, false, cond, List, [], ◌∷◌, ◌++◌, length, nat_lt, Option, None, Some, refl, sym, ap, ◌∙◌, subst, arith, length-append, slice_get, zero, suc}
-use Rattle.std.specs.Prelude.{map, All}
+use Rattle.std.proofs.Common.{◌≡◌, ℕ, ◌+◌, ◌-◌, ◌<◌, ◌≤◌, true, false, cond, List, [], ◌∷◌, ◌++◌, length, nat_lt, Some, refl, sym, ap, ◌∙◌, subst, arith, length-append, slice_get, zero, suc}
+use Rattle.std.specs.Prelude.{map}
 use Rattle.std.specs.List.{zip, range_with_len, AllByRecursion}
 use Rattle.std.proofs.lemmas.List.Elements.{All-from_recursion}
 use Rattle.std.proofs.lemmas.List.Sums.{count_by-le-length}
@@ -8,49 +8,42 @@ use Rattle.std.proofs.lemmas.List.FromFn.{length-range_with_len}
 use Rattle.std.proofs.lemmas.Slice.Zip.{length-zip}
 use Rattle.tp_base.specs.declared.answers.Answer.{Answer}
 use Rattle.tp_base.specs.declared.answers.Answer.TheVariants as answer
-use Rattle.tp_base.specs.declared.answers.Entry.{Entry}
 use Rattle.tp_base.specs.declared.answers.Outcome.TheVariants as outcome
 use Rattle.tp_base.specs.declared.calls.Call.{Call}
 use Rattle.tp_base.specs.declared.calls.Call.TheVariants.{BeginClose, Create, SubmitSimple}
 use Rattle.tp_base.specs.declared.ids.Who.{Who}
 use Rattle.tp_base.specs.declared.rows.CallbackRow.{CallbackRow}
 use Rattle.tp_base.specs.declared.rows.ObjectRow.{ObjectRow}
-use Rattle.tp_base.specs.Ranges.{IsAnswerInRange}
 use Rattle.tp_model.specs.Laws.Entries.{made_by}
 use Rattle.tp_model.specs.Laws.Once.{left}
 use Rattle.tp_model.specs.Support.Sound.{IsMade}
-use Rattle.tp_model.specs.Table.{plan}
 use Rattle.tp_model.specs.World.{World}
 use Rattle.tp_model.proofs.Entries.{entered, Accepts, Entered, Refuses}
 use Rattle.std.proofs.lemmas.Bool.Decides.{nat_tests}
 use Rattle.std.proofs.lemmas.Option.{slice_get_within}
 use Rattle.tp_model.proofs.Refusals.{numbered_some}
-use Rattle.tp_library.proofs.Counting.{left_appended, left_listed}
-use Rattle.tp_model.proofs.Fitting.{legal_fits}
-use Rattle.recorded.specs.Recordings.{outcome_behind, recorded, room_of, world_behind, Recording}
-use Rattle.tp_library.specs.Tallied.{group_of, row_of}
-use Rattle.tp_library.specs.Counted.{is_left_in, is_member_in, is_run_in, left_in, members_in, objects_told, on_objects, runs_in}
+use Rattle.tp_library.proofs.Counting.{left_appended}
+use Rattle.recorded.specs.Recordings.{outcome_behind, room_of, world_behind, Recording}
+use Rattle.tp_library.specs.Tallied.{group_of}
+use Rattle.tp_library.specs.Counted.{is_left_in, is_member_in, is_run_in, left_in, members_in}
 use Rattle.tp_library.specs.Effecting.{effect_of}
 use Rattle.tp_library.specs.Kept.{groups_in, IsKept}
-use Rattle.tp_library.specs.Noted.{CanNote, IsNoted}
+use Rattle.tp_library.specs.Noted.{CanNote}
 use Rattle.tp_library.specs.Rows.{counted_left, rows_in}
-use Rattle.tp_library.specs.Libraries.{shelf_answered}
 use Rattle.tp_library.specs.Shelves.{Shelf}
 use Rattle.tp_library.specs.Tallies.{at}
 use Rattle.tp_library.specs.declared.beside.Beside.{Beside}
 use Rattle.tp_library.specs.declared.told.Effect.{Effect}
 use Rattle.tp_library.specs.declared.told.Effect.TheVariants.{Nothing, Makes, Releases, Closes, Cancels, Submits, Takes, Returns, Finishes}
 use Rattle.tp_library.specs.declared.TheConstants.{LIBRARY_LIMIT}
-use Rattle.tp_library.proofs.Effected.{groups_applied, said_by, shelf_by, shelf_is, By}
-use Rattle.tp_library.proofs.Effects.{Effects, IsNewAt, IsShelfKept, IsSimple, Moved}
-use Rattle.tp_library.proofs.EffectsOf.{effects_of, legal_after, reached}
-use Rattle.tp_library.proofs.Grouping.{grouped, named_group, AreGrouped, IsGroupMade}
-use Rattle.tp_library.proofs.Holding.{held, Held}
-use Rattle.tp_library.proofs.Keeping.{few_callbacks, few_entries, few_objects}
+use Rattle.tp_library.proofs.Effected.{By}
+use Rattle.tp_library.proofs.Effects.{IsSimple}
+use Rattle.tp_library.proofs.EffectsOf.{reached}
+use Rattle.tp_library.proofs.Grouping.{grouped, IsGroupMade}
+use Rattle.tp_library.proofs.Keeping.{few_callbacks, few_objects}
 use Rattle.tp_library.proofs.Matching.{plan_matches, IsOf, Matches}
-use Rattle.tp_library.proofs.Noted.{actors_noted, cancelled_of, left_noted, owned_noted, rest_noted, running_noted}
-use Rattle.tp_library.proofs.Noting.{group_stands, AreCounted, AreOwned}
-use Rattle.tp_library.proofs.Summing.{above_new}
+use Rattle.tp_library.proofs.Noted.{cancelled_of}
+use Rattle.tp_library.proofs.Noting.{group_stands}
 
 -- ---- what else an effect tells
 

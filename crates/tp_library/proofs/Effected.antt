@@ -1,5 +1,5 @@
 -- What a call makes of a machine, by what its answer says of what is kept beside it.
-use Rattle.std.proofs.Common.{◌≡◌, ℕ, ◌+◌, ◌-◌, ◌==◌, Bool, true, false, cond, List, [], ◌∷◌, ◌++◌, Option, None, Some, refl, sym, ap, ◌∙◌, slice_get, slice_set, if◌then◌else◌, zero, suc}
+use Rattle.std.proofs.Common.{◌≡◌, ℕ, ◌-◌, ◌==◌, Bool, true, false, cond, List, [], ◌∷◌, ◌++◌, Option, None, Some, refl, sym, ap, ◌∙◌, slice_get, slice_set, if◌then◌else◌, zero, suc}
 use Rattle.std.specs.Prelude.{map}
 use Rattle.std.proofs.lemmas.List.{map-append}
 use Rattle.tp_base.specs.declared.answers.Answer.{Answer}
@@ -18,7 +18,7 @@ use Rattle.tp_library.specs.Kept.{groups_in}
 use Rattle.tp_library.specs.Libraries.{freed_slot, shelf_answered, slot_of, with_slot}
 use Rattle.tp_library.specs.Shelves.{Shelf}
 use Rattle.tp_library.specs.declared.told.Effect.{Effect}
-use Rattle.tp_library.specs.declared.told.Effect.TheVariants.{Nothing, Makes, Releases, Closes, Cancels, Submits, Takes, Returns, Finishes}
+use Rattle.tp_library.specs.declared.told.Effect.TheVariants.{Makes, Releases, Closes, Cancels, Submits, Takes, Returns, Finishes}
 use Rattle.tp_library.proofs.Effects.{IsCut, IsGroupCut, IsKept, IsReturned, IsSame, IsTaken}
 use Rattle.tp_library.proofs.Holding.{Held, IsGroupLeft, IsHeldLess, IsHeldMore, IsHeldSame}
 use Rattle.tp_library.proofs.Matching.{IsOf}

@@ -1,17 +1,16 @@
 -- What is kept beside a machine tells what holds each library.
-use Rattle.std.proofs.Common.{◌≡◌, ℕ, ◌+◌, ◌-◌, ◌*◌, ◌<◌, ◌≤◌, ◌==◌, ◌&&◌, ◌^◌, Bool, true, false, not, List, [], ◌∷◌, length, nat_lt, replicate, refl, sym, ap, ◌∙◌, subst, arith, get_or, zero, suc, None}
+use Rattle.std.proofs.Common.{◌≡◌, ℕ, ◌+◌, ◌<◌, ◌≤◌, ◌==◌, ◌&&◌, ◌^◌, true, false, not, [], ◌∷◌, length, nat_lt, replicate, refl, sym, ap, ◌∙◌, subst, arith, get_or, zero, suc, None}
 use Rattle.std.specs.Prelude.{map}
-use Rattle.std.specs.List.{count_by, zip}
+use Rattle.std.specs.List.{zip}
 use Rattle.std.proofs.lemmas.Bool.Decides.{nat_tests}
 use Rattle.std.proofs.lemmas.List.{get_or-replicate, length-replicate}
 use Rattle.std.proofs.lemmas.List.Sums.{count_by-le-length}
 use Rattle.std.proofs.lemmas.Slice.Zip.{length-zip}
 use Rattle.tp_base.specs.declared.limits.Limits.{Limits}
-use Rattle.tp_base.specs.declared.rows.CallbackRow.{CallbackRow}
 use Rattle.tp_base.specs.declared.rows.ClientRow.{ClientRow}
 use Rattle.tp_base.specs.declared.rows.WorkerRow.{WorkerRow}
 use Rattle.tp_base.specs.Ranges.{AreLimitsInRange}
-use Rattle.tp_model.specs.World.{opening, unattached, unfinished, World}
+use Rattle.tp_model.specs.World.{opening, unattached, unfinished}
 use Rattle.tp_model.proofs.Fitting.{legal_fits}
 use Rattle.recorded.specs.Recordings.{world_behind, Recording}
 use Rattle.tp_library.proofs.Tallies.{none_at}
@@ -23,8 +22,8 @@ use Rattle.tp_base.specs.declared.ids.Who.{Who}
 use Rattle.tp_library.specs.Stepped.{IsStep}
 use Rattle.tp_library.specs.declared.LibAnswer.{LibAnswer}
 use Rattle.tp_library.specs.declared.LibCall.{LibCall}
-use Rattle.tp_library.specs.Seen.{was_held, was_unloaded, Seen}
-use Rattle.tp_library.specs.Shelves.{callbacks_in, holds, is_callback_in, is_object_in, objects_in, Shelf}
+use Rattle.tp_library.specs.Seen.{was_held, was_unloaded}
+use Rattle.tp_library.specs.Shelves.{holds, is_callback_in, is_object_in, objects_in}
 use Rattle.tp_library.specs.Tallies.{at}
 use Rattle.tp_library.specs.declared.beside.Beside.{Beside}
 use Rattle.tp_library.specs.declared.TheConstants.{LIBRARY_LIMIT}

@@ -1,5 +1,5 @@
 -- Which calls some answers are of: a return of a Return alone, and the end of a close of a group of a BeginClose.
-use Rattle.std.proofs.Common.{◌≡◌, ℕ, ◌+◌, Bool, true, false, cond, not, ◌||◌, ◌==◌, nat_le, nat_lt, List, [], ◌∷◌, length, Option, Some, None, refl, sym, ap, arith, eqb-true, ne_eqb}
+use Rattle.std.proofs.Common.{◌≡◌, ℕ, ◌+◌, Bool, true, false, cond, not, ◌||◌, ◌==◌, nat_le, nat_lt, List, [], ◌∷◌, length, Option, Some, None, refl}
 use Rattle.tp_base.specs.Kernels.{is_event, is_lock, owns}
 use Rattle.tp_base.specs.declared.answers.ActionKind.{ActionKind}
 use Rattle.tp_base.specs.declared.answers.Answer.{Answer}
@@ -31,7 +31,7 @@ use Rattle.tp_base.specs.declared.rows.ObjectRow.{ObjectRow}
 use Rattle.tp_model.specs.Calls.Clients.{finish, finish_plan, finish_refusals}
 use Rattle.tp_model.specs.Calls.Groups.{create_group_plan, close_group_plan, close_group_refusals, begin_close_plan, begin_close_refusals}
 use Rattle.tp_model.specs.Calls.InCallback.{busy_refusals, disassociate, disassociate_plan, may_run_long, may_run_long_plan, on_return, on_return_plan, on_return_refusals}
-use Rattle.tp_model.specs.Calls.Io.{first_expected, is_expected_of, start_io, start_io_plan, start_io_refusals, expected_refusals, operate, issue_io_plan, cancel_io_plan, complete_io, complete_io_plan, complete_io_refusals}
+use Rattle.tp_model.specs.Calls.Io.{start_io, start_io_plan, start_io_refusals, expected_refusals, operate, issue_io_plan, cancel_io_plan, complete_io, complete_io_plan, complete_io_refusals}
 use Rattle.tp_model.specs.Calls.Kernels.{create_event_plan, create_semaphore_plan, create_lock_plan, kernel_refusals, set_event_plan, reset_event_plan, release_semaphore_plan, release_semaphore_refusals, release_lock_plan}
 use Rattle.tp_model.specs.Calls.Objects.{create_plan, create_refusals, close_object_plan, close_object_refusals}
 use Rattle.tp_model.specs.Calls.Pools.{create_pool_plan, pool_refusals, close_pool_plan, set_maximum_plan, set_minimum_plan}
@@ -40,17 +40,13 @@ use Rattle.tp_model.specs.Calls.WaitObjects.{set_wait_plan, set_wait_refusals}
 use Rattle.tp_model.specs.Calls.Waits.{begin_wait_plan, begin_wait_refusals, begin_acquire_plan, begin_acquire_refusals}
 use Rattle.tp_model.specs.Calls.Work.{submit, submit_work_plan, submit_work_refusals, submit_simple_plan, submit_simple_refusals}
 use Rattle.tp_model.specs.Calls.Workers.{attach_plan, attach_refusals, idle_refusals, return_refusals, attach_to, detach, detach_plan, may_leave, return, return_plan, take as take_next, take_callback, take_plan}
-use Rattle.tp_model.specs.Counts.{is_expected, maximum, next, numbered, running}
+use Rattle.tp_model.specs.Counts.{maximum, next, numbered, running}
 use Rattle.tp_model.specs.History.{wait_end}
 use Rattle.tp_model.specs.Kernels.{is_kernel_that}
 use Rattle.tp_model.specs.Refusing.{first_refusal, make_refusals, object_refusals, unless_refused}
 use Rattle.tp_model.specs.Table.{plan}
 use Rattle.tp_model.specs.World.{World}
 use Rattle.tp_model.proofs.Entries.{next_number_in, told_change}
-use Rattle.tp_base.specs.declared.plans.Awaited.TheVariants as awaited
-use Rattle.tp_model.proofs.Lists.{find_passes}
-use Rattle.tp_model.proofs.Refusals.{both, numbered_some}
-use Rattle.tp_library.specs.Counted.{finished_by, on_objects, Closes, Keeps, Makes, OnObjects, Releases}
 
 abbrev pub is_return : Call → Bool
 is_return Return = true

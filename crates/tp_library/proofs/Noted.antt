@@ -1,5 +1,5 @@
 -- What is kept beside a machine once an answer was noted, by what the answer says.
-use Rattle.std.proofs.Common.{◌≡◌, ℕ, ◌+◌, ◌-◌, ◌<◌, ◌≤◌, ◌==◌, Bool, true, false, cond, List, [], ◌∷◌, ◌++◌, length, Option, None, Some, refl, sym, ap, ap₂, ◌∙◌, subst, arith, find, slice_set, length-append}
+use Rattle.std.proofs.Common.{◌≡◌, ℕ, ◌+◌, ◌≤◌, ◌==◌, Bool, true, false, cond, List, [], ◌∷◌, ◌++◌, length, Option, None, Some, refl, sym, ap, ◌∙◌, subst, arith, find, length-append}
 use Rattle.std.proofs.lemmas.List.{length-set}
 use Rattle.tp_base.specs.declared.ids.ObjectId.{ObjectId}
 use Rattle.tp_base.specs.declared.ids.Who.{Who}
@@ -9,18 +9,16 @@ use Rattle.tp_model.specs.Counts.{has_number}
 use Rattle.tp_model.specs.Support.Sound.{IsSound}
 use Rattle.tp_model.specs.World.{World}
 use Rattle.tp_library.specs.Acting.{run_of, with_run}
-use Rattle.tp_library.specs.Shelved.{Stocked}
-use Rattle.tp_library.specs.Tallied.{group_of, none_held, row_of, with_left, with_object, with_running, without_left, without_object, without_running, Tallied, IsWithoutGroup}
+use Rattle.tp_library.specs.Tallied.{group_of, none_held, row_of, Tallied}
 use Rattle.tp_library.specs.Tallies.{lowered, raised}
-use Rattle.tp_library.specs.Counted.{left_in, members_in, one_in, runs_in}
+use Rattle.tp_library.specs.Counted.{left_in, members_in, runs_in}
 use Rattle.tp_library.specs.Kept.{groups_in, run_in, AreActors}
-use Rattle.tp_library.specs.Noted.{with_simple, without_run, CanNote, IsNoted}
+use Rattle.tp_library.specs.Noted.{without_run, CanNote, IsNoted}
 use Rattle.tp_library.specs.Libraries.{freed_slot, slot_of, with_slot}
 use Rattle.tp_library.specs.Shelves.{library_at, library_of, library_of_object, Shelf}
 use Rattle.tp_library.specs.declared.beside.Beside.{Beside}
 use Rattle.tp_library.specs.declared.told.Effect.{Effect}
 use Rattle.tp_library.specs.declared.told.Effect.TheVariants.{Nothing, Makes, Releases, Closes, Cancels, Submits, Takes, Returns, Finishes}
-use Rattle.tp_library.specs.declared.TheConstants.{LIBRARY_LIMIT}
 use Rattle.tp_library.proofs.Effected.{groups_by, shelf_by, By}
 use Rattle.tp_library.proofs.Effects.{IsKeptRow, IsReturned, IsTaken}
 use Rattle.tp_library.proofs.Holding.{one_of}

@@ -1,5 +1,5 @@
 -- What is kept beside a machine after the answer of a call was noted: it is that of the world behind the call.
-use Rattle.std.proofs.Common.{◌≡◌, ◌≢◌, ℕ, ◌+◌, ◌-◌, ◌<◌, ◌≤◌, ◌==◌, Bool, true, false, cond, List, [], ◌∷◌, ◌++◌, length, Option, None, Some, refl, sym, ap, ap₂, ◌∙◌, subst, arith, find, get_or, slice_get, slice_set, if◌then◌else◌, zero, suc}
+use Rattle.std.proofs.Common.{◌≡◌, ◌≢◌, ℕ, ◌+◌, ◌-◌, ◌<◌, ◌≤◌, ◌==◌, true, false, cond, List, [], ◌∷◌, length, Option, None, Some, refl, sym, ap, ap₂, ◌∙◌, subst, arith, find, get_or, slice_get, slice_set, zero, suc}
 use Rattle.std.specs.Prelude.{map, option_map}
 use Rattle.std.specs.Option.{option_map_or, unwrap_or}
 use Rattle.std.proofs.lemmas.Bool.Decides.{nat_tests}
@@ -9,23 +9,22 @@ use Rattle.tp_base.specs.declared.ids.Who.{Who}
 use Rattle.tp_base.specs.declared.ids.Who.TheVariants.{Client, Worker}
 use Rattle.tp_base.specs.declared.rows.CallbackRow.{CallbackRow}
 use Rattle.tp_base.specs.declared.rows.ObjectRow.{ObjectRow}
-use Rattle.tp_model.specs.Counts.{callback_of, has_number, numbered}
+use Rattle.tp_model.specs.Counts.{has_number, numbered}
 use Rattle.tp_model.specs.Support.Sound.{IsSound}
 use Rattle.tp_model.specs.World.{World}
 use Rattle.tp_library.specs.Acting.{run_of, Acting}
-use Rattle.tp_library.specs.Tallied.{group_of, none_held, row_of, with_left, with_object, with_running, without_left, without_object, without_running, Tallied, IsWithoutGroup}
+use Rattle.tp_library.specs.Tallied.{group_of, none_held, row_of}
 use Rattle.tp_library.specs.Acting as acting
-use Rattle.tp_library.specs.Counted.{client_number, finished_in, left_in, members_in, one_in, runs_in, runs_of, with_finished, with_run}
-use Rattle.tp_library.specs.Kept.{groups_in, object_at, run_in, AreActors, AreFull, IsCounted}
-use Rattle.tp_library.specs.Noted.{without_run}
-use Rattle.tp_library.specs.Shelves.{library_at, library_of, library_of_object, objects_in, Shelf}
+use Rattle.tp_library.specs.Counted.{client_number, finished_in, members_in, one_in, runs_of, with_finished, with_run}
+use Rattle.tp_library.specs.Kept.{object_at, run_in, AreActors}
+use Rattle.tp_library.specs.Shelves.{objects_in, Shelf}
 use Rattle.tp_library.specs.Tallies.{at, lowered, raised}
 use Rattle.tp_library.specs.declared.TheConstants.{LIBRARY_LIMIT}
 use Rattle.tp_library.proofs.Tallies.{cleared_at, lowered_at, raised_at}
 use Rattle.tp_library.proofs.Acting.{run_found}
 use Rattle.tp_library.proofs.Stepping.{numbered_map}
-use Rattle.tp_library.proofs.Effects.{IsCut, IsKeptRow, IsReturned, IsSame, IsTaken}
-use Rattle.tp_library.proofs.Holding.{IsGroupLeft, IsHeldLess, IsHeldMore, IsHeldSame, one_of}
+use Rattle.tp_library.proofs.Effects.{IsKeptRow}
+use Rattle.tp_library.proofs.Holding.{IsGroupLeft, IsHeldMore, IsHeldSame, one_of}
 
 -- ---- objects
 

@@ -1,5 +1,5 @@
 -- A call of the machine is the step of the definition.
-use Rattle.std.proofs.Common.{◌≡◌, ℕ, ◌+◌, ◌<◌, ◌≤◌, ◌==◌, ◌&&◌, ◌^◌, Bool, true, false, cond, List, [], ◌∷◌, ◌++◌, length, nat_lt, None, Some, refl, sym, ap, ap₂, ◌∙◌, subst, arith}
+use Rattle.std.proofs.Common.{◌≡◌, ℕ, ◌+◌, ◌<◌, ◌≤◌, ◌==◌, ◌&&◌, ◌^◌, Bool, true, false, cond, length, nat_lt, None, Some, refl, sym, ap, ap₂, ◌∙◌, subst, arith}
 use Rattle.std.specs.List.{range_with_len}
 use Rattle.std.proofs.lemmas.Bool.Decides.{nat_tests}
 use Rattle.std.proofs.lemmas.List.{append-nil}
@@ -17,7 +17,7 @@ use Rattle.tp_library.specs.Effecting.{effect_of}
 use Rattle.tp_library.specs.Kept.{held_by, stand_of, IsKept}
 use Rattle.tp_library.specs.Noted.{CanNote, IsNoted}
 use Rattle.tp_library.specs.Rows.{counted_left}
-use Rattle.tp_library.specs.Libraries.{made_at, shelf_after, shelf_answered, step_at, unless_refused}
+use Rattle.tp_library.specs.Libraries.{made_at, shelf_after, step_at, unless_refused}
 use Rattle.tp_library.specs.Shelves.{holds, Shelf, Stand}
 use Rattle.tp_library.specs.Tallies.{at}
 use Rattle.tp_library.specs.declared.beside.Beside.{Beside}

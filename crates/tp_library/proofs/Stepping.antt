@@ -1,5 +1,5 @@
 -- The calls of libraries alone.
-use Rattle.std.proofs.Common.{◌≡◌, ◌≢◌, ℕ, ◌+◌, ◌-◌, ◌<◌, ◌≤◌, ◌==◌, ◌||◌, Bool, true, false, not, cond, List, [], ◌∷◌, length, Option, Some, None, is_some, slice_get, refl, sym, ap, ◌∙◌, subst, arith, eqb, zero, suc}
+use Rattle.std.proofs.Common.{◌≡◌, ℕ, ◌-◌, ◌==◌, ◌||◌, Bool, true, false, not, cond, List, [], ◌∷◌, Option, Some, None, is_some, slice_get, refl, sym, ap, ◌∙◌}
 use Rattle.std.specs.Prelude.{map, option_map}
 use Rattle.std.specs.Option.{option_map_or, unwrap_or}
 use Rattle.std.proofs.lemmas.Option.{slice_get-map}
@@ -11,7 +11,7 @@ use Rattle.tp_model.specs.Conditions.{is_actor, is_finished, runs_callback}
 use Rattle.tp_model.specs.Counts.{numbered}
 use Rattle.tp_model.specs.World.{World}
 use Rattle.tp_library.specs.Acting.{has_finished, is_there, run_of, Acting}
-use Rattle.tp_library.specs.Counted.{finished_in, runs_of}
+use Rattle.tp_library.specs.Counted.{runs_of}
 use Rattle.tp_library.specs.Kept.{run_in, AreActors}
 use Rattle.tp_library.specs.Stepped.{refused_actor}
 use Rattle.tp_library.specs.Libraries.{first_of, slot_of, step_at, unless_refused, with_slot}

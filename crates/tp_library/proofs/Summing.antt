@@ -1,5 +1,5 @@
 -- The callbacks that are counted above a number are those that were made since.
-use Rattle.std.proofs.Common.{◌≡◌, ℕ, ◌+◌, ◌<◌, ◌≤◌, ◌==◌, ◌&&◌, Bool, true, false, cond, List, [], ◌∷◌, ◌++◌, length, nat_lt, Some, refl, sym, ap, ◌∙◌, subst, arith, slice_get, filter, zero, suc}
+use Rattle.std.proofs.Common.{◌≡◌, ℕ, ◌+◌, ◌<◌, ◌≤◌, ◌==◌, ◌&&◌, Bool, true, false, cond, List, [], ◌∷◌, ◌++◌, length, Some, refl, sym, ap, ◌∙◌, subst, arith, slice_get, filter, zero, suc}
 use Rattle.std.specs.Prelude.{map}
 use Rattle.std.specs.List.{count_by, AllByRecursion}
 use Rattle.std.proofs.lemmas.List.{map-append}
@@ -9,7 +9,7 @@ use Rattle.tp_model.specs.Support.Sound.{IsRising}
 use Rattle.tp_model.specs.World.{World}
 use Rattle.tp_library.specs.Counted.{is_left_in, left_in}
 use Rattle.tp_library.specs.Rows.{is_above, is_row_in, rows_in, Row}
-use Rattle.tp_library.specs.Shelves.{library_at, library_of, Shelf}
+use Rattle.tp_library.specs.Shelves.{library_of, Shelf}
 use Rattle.tp_library.proofs.Above.{kept_row, left_out}
 use Rattle.tp_library.proofs.Counting.{count_appended, count_cons}
 

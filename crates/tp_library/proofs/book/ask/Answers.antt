@@ -1,11 +1,9 @@
-use Rattle.std.proofs.Common.{◌≡◌, ℕ, ◌<◌, ◌≤◌, true, false, nat_lt, refl, sym, ap, ◌∙◌, subst, arith}
-use Rattle.tp_base.specs.declared.answers.Outcome.TheVariants as outcome
+use Rattle.std.proofs.Common.{◌≡◌, ◌<◌, true, nat_lt, refl, sym, ◌∙◌, subst, arith}
 use Rattle.recorded.specs.Recordings.{Recording}
 use Rattle.tp_library.specs.Kept.{held_by, IsKept}
 use Rattle.tp_library.proofs.Pooling.{answered_kept, answered_step, may_count, may_note, not_loaded, nothing_happens, same_recording}
 use Rattle.tp_library.proofs.book.ask.Goals as goal
 use Rattle.tp_library.proofs.book.ask.Goals.{else-library-gt0-via-then-library-gt0+else-not-is_held, else-library-gt0-via-else-library-gt0}
-use Rattle.tp_library.proofs.book.ask.Given.{Over}
 
 pub returns-then-not-is_held-clause-step : goal.returns-then-not-is_held-clause-step
 returns-then-not-is_held-clause-step g c =

@@ -1,14 +1,6 @@
-use Rattle.std.proofs.Common.{◌≡◌, ℕ, ◌+◌, ◌<◌, ◌≤◌, Some, None, find, refl, sym, ap, ◌∙◌, subst, arith, length}
-use Rattle.std.proofs.lemmas.List.{length-set}
-use Rattle.recorded.specs.Recordings.{world_behind}
-use Rattle.tp_model.specs.Laws.Once.{left}
+use Rattle.std.proofs.Common.{refl, arith}
 use Rattle.tp_model.specs.Over.{row_of}
-use Rattle.tp_library.specs.Tallied.{with_left, Tallied}
-use Rattle.tp_library.specs.Counted.{one_in}
-use Rattle.tp_library.specs.Rows.{is_above, rows_in}
 use Rattle.tp_library.specs.Shelves.{library_at}
-use Rattle.tp_library.specs.Tallies.{at, raised}
-use Rattle.tp_library.specs.declared.TheConstants.{LIBRARY_LIMIT}
 use Rattle.tp_library.proofs.Above.{end_behind, fewer_behind, next_behind}
 use Rattle.tp_library.proofs.Tallies.{left_alone, left_many, left_raised, one_as, one_same}
 use Rattle.tp_library.proofs.book.count_above.Goals as goal

@@ -1,4 +1,4 @@
-use Rattle.std.proofs.Common.{◌≡◌, ◌<◌, ◌≤◌, arith}
+use Rattle.std.proofs.Common.{◌<◌, ◌≤◌, arith}
 use Rattle.tp_library.proofs.Keeping.{none_unloaded, opened_kept}
 use Rattle.tp_library.proofs.book.LibraryBook.open.Goals as goal
 

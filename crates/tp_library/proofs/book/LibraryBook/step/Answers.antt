@@ -1,13 +1,11 @@
-use Rattle.std.proofs.Common.{Bool, Global, Vec, ◌≡◌, ℕ, ◌≤◌, nat_lt, sym, ap, ◌∙◌, subst, arith}
+use Rattle.std.proofs.Common.{Bool, Global, Vec, sym, ap, ◌∙◌}
 use Rattle.tp_library.specs.Shelved.{Stocked}
-use Rattle.tp_library.specs.Kept.{held_by, stand_of}
+use Rattle.tp_library.specs.Kept.{stand_of}
 use Rattle.tp_library.specs.Shelves.{Stand}
 use Rattle.tp_library.specs.declared.LibAnswer.{LibAnswer}
 use Rattle.tp_library.specs.declared.LibCall.TheVariants.{Free, FreeOnReturn, Load, Pool}
-use Rattle.tp_library.specs.Libraries.{is_unloaded, step_at, IsLibrary}
-use Rattle.tp_library.specs.Seen.{was_held, was_unloaded}
-use Rattle.tp_library.specs.declared.beside.Beside.{Beside}
-use Rattle.tp_library.specs.declared.TheConstants.{LIBRARY_LIMIT}
+use Rattle.tp_library.specs.Libraries.{step_at}
+use Rattle.tp_library.specs.Seen.{was_held}
 use Rattle.tp_library.proofs.Keeping.{unloaded_between, unloaded_stepped}
 use Rattle.tp_library.proofs.Loaded.{loaded}
 use Rattle.tp_library.proofs.book.LibraryBook.step.Goals as goal
