@@ -1,21 +1,15 @@
 -- What a shelf keeps, and how a simple callback is found on it.
-use Rattle.std.proofs.Common.{◌≡◌, ◌≢◌, ℕ, ◌+◌, ◌<◌, ◌≤◌, ◌==◌, Bool, true, false, cond, List, [], ◌∷◌, length, get_or, replicate, Option, Some, None, Result, Ok, Err, refl, sym, ap, ◌∙◌, subst, arith, find, zero, suc, nat_cmp, nat_lt}
-use Rattle.std.specs.Prelude.{All}
+use Rattle.std.proofs.Common.{◌≡◌, ◌≢◌, ℕ, ◌+◌, ◌<◌, ◌≤◌, ◌==◌, Bool, true, false, cond, List, [], ◌∷◌, length, get_or, replicate, Some, None, refl, sym, ap, ◌∙◌, subst, arith, find, zero, suc, nat_cmp, nat_lt}
 use Rattle.std.specs.List.{AllPairs}
 use Rattle.std.specs.Option.{option_map_or}
 use Rattle.std.proofs.lemmas.Bool.Decides.{nat_tests}
 use Rattle.std.specs.Ordering.{ordering_index}
 use Rattle.std.specs.declared.cmp.Ordering.TheVariants.{Less, Equal, Greater}
 use Rattle.std.specs.List.Sorted.{IsNonDecreasingBy, IsPartitionPoint}
-use Rattle.tp_library.specs.Beside.{none_held}
+use Rattle.tp_library.proofs.Tallies.{none_at}
+use Rattle.tp_library.specs.Tallied.{none_held}
 use Rattle.tp_library.specs.Shelved.{IsBefore, IsShelved}
-use Rattle.tp_library.specs.Tallies.{at}
-use Rattle.tp_library.specs.declared.TheConstants.{LIBRARY_LIMIT, LOAD_LIMIT}
-
-none_at : (n k : ℕ) → at (replicate n 0) k ≡ 0
-none_at zero k = refl
-none_at (suc n) zero = refl
-none_at (suc n) (suc k) = none_at n k
+use Rattle.tp_library.specs.declared.TheConstants.{LIBRARY_LIMIT}
 
 pub nothing_shelved : (loads of_object : List ℕ) (of_simple : List (ℕ × ℕ)) (slots : List ℕ) (workers : ℕ)
     → loads ≡ none_held → of_object ≡ [] → of_simple ≡ [] → slots ≡ replicate workers 0 → IsShelved loads of_object of_simple slots

@@ -1,11 +1,15 @@
-pub mod Beside
+pub mod Acting
 pub mod Counted
 pub mod Effecting
 pub mod Kept
 pub mod Laws
 pub mod Libraries
 pub mod Lines
+pub mod Noted
+pub mod Rows
 pub mod Seen
 pub mod Shelved
 pub mod Shelves
+pub mod Stepped
+pub mod Tallied
 pub mod Tallies

@@ -1,10 +1,17 @@
--- What a shelf keeps between calls.
-use Rattle.std.specs.Prelude.{ℕ, ◌<◌, ◌≤◌, All, List, map}
+-- A shelf as it is kept.
+use Rattle.std.specs.Prelude.{ℕ, ◌<◌, ◌≤◌, All, List}
 use Rattle.std.specs.List.{AllPairs}
+use Rattle.tp_library.specs.Shelves.{Shelf}
 use Rattle.tp_library.specs.Tallies.{at}
 use Rattle.tp_library.specs.declared.TheConstants.{LIBRARY_LIMIT, LOAD_LIMIT}
 
--- a callback with its library is before another
+-- a shelf, and for how many objects and simple callbacks it has room
+pub record Stocked : Type 0 where
+  pub shelf : Shelf
+  pub objects : ℕ
+  pub simple : ℕ
+
+-- a callback with its library comes before another
 abbrev pub IsBefore : (ℕ × ℕ) → (ℕ × ℕ) → Type 0
 IsBefore a b = a.0 < b.0
 

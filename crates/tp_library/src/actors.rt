@@ -1,12 +1,13 @@
 //! What is known of who makes calls.
 
 ghost use Rattle.std.specs.Prelude.{◌≡◌, ◌+◌, ◌-◌, ◌^◌, ◌<◌, ◌≤◌, ℕ, is_some, length, option_map, Some, None, IfOk};
-ghost use Rattle.tp_library.specs.Beside.{has_finished, is_there, opening_actors, run_of, with_finished, with_run, Acting};
+ghost use Rattle.tp_library.specs.Acting.{has_finished, is_there, opening_actors, run_of, with_finished, with_run, Acting};
 
 use std::alloc::{AllocError, Global};
 use std::marker::Model;
 use tp_base::ids::{ObjectId, Who};
 
+/// Who has finished, and who runs what.
 #[derive(Drop)]
 pub(crate) struct Actors {
     // By client, from 1 on: whether it has finished.
@@ -16,7 +17,7 @@ pub(crate) struct Actors {
 }
 
 impl Model for Actors {
-    ghost use Rattle.tp_library.specs.Beside.{Acting};
+    ghost use Rattle.tp_library.specs.Acting.{Acting};
 
     ghost Value = { Acting };
 
@@ -67,7 +68,8 @@ impl Actors {
     {
         match who {
             Who::Client(_) => None,
-            Who::Worker(number) => match self.runs.get((number as usize).saturating_sub(1)) {
+            Who::Worker(0) => None,
+            Who::Worker(number) => match self.runs.get(number as usize - 1) {
                 Some(Some((callback, object))) => Some((*callback, ObjectId(*object))),
                 _ => None,
             },
@@ -78,13 +80,7 @@ impl Actors {
     pub(crate) fn is_running(&self, who: Who) -> bool
         ensures { result ≡ is_some (run_of self.now who) }
     {
-        match who {
-            Who::Client(_) => false,
-            Who::Worker(number) => match self.runs.get((number as usize).saturating_sub(1)) {
-                Some(run) => run.is_some(),
-                None => false,
-            },
-        }
+        self.run(who).is_some()
     }
 
     /// A client makes no further call.

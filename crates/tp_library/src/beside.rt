@@ -2,11 +2,14 @@
 
 ghost use Rattle.std.specs.Prelude.{◌≡◌, ◌+◌, ◌-◌, ◌*◌, ◌^◌, ◌<◌, ◌≤◌, ℕ, Bool, false, not, ◌==◌, nat_lt, length, replicate, is_some, slice_set, IfOk};
 ghost use Rattle.tp_base.specs.declared.ids.Who.{Who as Actor};
-ghost use Rattle.tp_library.specs.Beside.{has_finished, is_there, none_held, opening_actors, opening_counts, run_of};
-ghost use Rattle.tp_library.specs.Kept.{held_by, refused_actor, AreOpened, CanNote, IsNoted, IsStep};
+ghost use Rattle.tp_library.specs.Acting.{has_finished, is_there, opening_actors, run_of};
+ghost use Rattle.tp_library.specs.Tallied.{none_held, opening_counts};
+ghost use Rattle.tp_library.specs.Kept.{held_by, AreOpened};
+ghost use Rattle.tp_library.specs.Noted.{CanNote, IsNoted};
+ghost use Rattle.tp_library.specs.Stepped.{refused_actor, IsStep};
 ghost use Rattle.tp_library.specs.Libraries.{slot_of, with_load, with_slot, IsLibrary};
 ghost use Rattle.tp_library.specs.Seen.{was_held};
-ghost use Rattle.tp_library.specs.Shelves.{load};
+ghost use Rattle.tp_library.specs.Tallies.{at};
 
 use crate::actors::Actors;
 use crate::counts::Counts;
@@ -44,7 +47,7 @@ impl Beside {
     /// By how much a library is held.
     pub(crate) fn held(&self, library: u32) -> u64
         requires library { library ≤ LIBRARY_LIMIT }
-        requires fits { held_by self.now library < 2 ^ 64 }
+        requires fits { at self.now.counts.owned library + at self.now.counts.left library + at self.now.counts.running library < 2 ^ 63 }
         ensures { result ≡ held_by self.now library }
     {
         self.shelf.load(library)

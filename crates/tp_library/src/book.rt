@@ -1,13 +1,14 @@
 //! A machine and its libraries.
 
-ghost use Rattle.std.specs.Prelude.{◌≡◌, ◌+◌, ◌-◌, ◌*◌, ◌^◌, ◌<◌, ◌≤◌, ℕ, Err, IfErr, IfOk, false};
+ghost use Rattle.std.specs.Prelude.{◌≡◌, ◌+◌, ◌-◌, ◌*◌, ◌^◌, ◌<◌, ◌≤◌, ℕ, Err, IfErr, IfOk, false, length};
 ghost use Rattle.recorded.specs.declared.OpenFault.TheVariants.{NoMemory, TooSmall};
 ghost use Rattle.recorded.specs.Recordings.{world_behind};
 ghost use Rattle.tp_base.specs.Ranges.{AreLimitsInRange, IsCallInRange};
 ghost use Rattle.tp_model.specs.History.{IsLegal};
 ghost use Rattle.tp_model.specs.Laws.{KeepsLaws};
 ghost use Rattle.tp_model.specs.Laws.Once.{left};
-ghost use Rattle.tp_library.specs.Kept.{is_above, rows_in, stand_of, IsKept};
+ghost use Rattle.tp_library.specs.Kept.{stand_of, IsKept};
+ghost use Rattle.tp_library.specs.Rows.{counted_left, rows_in};
 ghost use Rattle.tp_library.specs.Laws.{AreLoaded};
 ghost use Rattle.tp_library.specs.Libraries.{is_unloaded, may_have_library, opening, step_at, IsLibCallInRange, IsLibrary};
 ghost use Rattle.tp_library.specs.Seen.{was_unloaded, IsLibAnswerInRange};
@@ -169,7 +170,14 @@ fn count_changed<B: Recorded>(
     effect: Effect,
     first: u64,
     count: u32,
-) {
+)
+    requires legal { IsLegal (B.recording book.now).limits (B.recording book.now).capacity (B.recording book.now).history }
+    requires many { length counts.old.left ≡ LIBRARY_LIMIT + 1 }
+    requires fits { (library : ℕ) → library ≤ LIBRARY_LIMIT → counted_left shelf.now.shelf library effect first count (left (world_behind (B.recording book.now))) counts.old.left < 2 ^ 64 }
+    ensures left { (library : ℕ) → library ≤ LIBRARY_LIMIT → at counts.new.left library ≡ counted_left shelf.now.shelf library effect first count (left (world_behind (B.recording book.now))) counts.old.left }
+    ensures many { length counts.new.left ≡ LIBRARY_LIMIT + 1 }
+    ensures same { counts.new ≡ record counts.old { left = counts.new.left } }
+{
     if let Effect::Closes { cancelled, .. } = effect {
         if cancelled > 0 {
             counts.clear_left();
@@ -183,8 +191,10 @@ fn count_changed<B: Recorded>(
 // Counts the callbacks above a number that may still run.
 fn count_above<B: Recorded>(book: &B, shelf: &Shelf, counts: &mut Counts, number: u64)
     requires legal { IsLegal (B.recording book.now).limits (B.recording book.now).capacity (B.recording book.now).history }
+    requires many { length counts.old.left ≡ LIBRARY_LIMIT + 1 }
     requires fits { (library : ℕ) → library ≤ LIBRARY_LIMIT → at counts.old.left library + rows_in shelf.now.shelf library number (left (world_behind (B.recording book.now))) < 2 ^ 64 }
     ensures left { (library : ℕ) → library ≤ LIBRARY_LIMIT → at counts.new.left library ≡ at counts.old.left library + rows_in shelf.now.shelf library number (left (world_behind (B.recording book.now))) }
+    ensures many { length counts.new.left ≡ LIBRARY_LIMIT + 1 }
     ensures same { counts.new ≡ record counts.old { left = counts.new.left } }
 {
     let mut number = number;

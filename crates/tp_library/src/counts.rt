@@ -1,7 +1,7 @@
 //! What is counted of each library.
 
 ghost use Rattle.std.specs.Prelude.{◌≡◌, ◌+◌, ◌-◌, ◌^◌, ◌<◌, ◌≤◌, ℕ, [], ◌∷◌, ◌++◌, length, replicate, slice_index_or, slice_set, IfOk};
-ghost use Rattle.tp_library.specs.Beside.{group_of, none_held, opening_counts, row_of, with_left, with_object, with_running, without_left, without_object, without_running, Counted, IsWithoutGroup};
+ghost use Rattle.tp_library.specs.Tallied.{group_of, none_held, opening_counts, row_of, with_left, with_object, with_running, without_left, without_object, without_running, Tallied, IsWithoutGroup};
 ghost use Rattle.tp_library.specs.Tallies.{at};
 
 use crate::LIBRARY_LIMIT;
@@ -10,6 +10,7 @@ use std::alloc::{AllocError, Global};
 use std::marker::Model;
 use tp_base::ids::{GroupId, ObjectId};
 
+/// Of each library how many objects and callbacks there are.
 #[derive(Drop)]
 pub(crate) struct Counts {
     // Its objects that aren't released; of its callbacks those that may still run; and those that run.
@@ -23,9 +24,9 @@ pub(crate) struct Counts {
 }
 
 impl Model for Counts {
-    ghost use Rattle.tp_library.specs.Beside.{Counted};
+    ghost use Rattle.tp_library.specs.Tallied.{Tallied};
 
-    ghost Value = { Counted };
+    ghost Value = { Tallied };
 
     ghost use Rattle.std.specs.Prelude.{vec_capacity};
 

@@ -1,4 +1,27 @@
-//! Libraries beside a machine.
+//! Libraries beside a machine: what `LoadLibrary` and `FreeLibrary`, `SetThreadpoolCallbackLibrary` and
+//! `FreeLibraryWhenCallbackReturns` come to.
+//!
+//! A library is held by each load that wasn't freed, by each object that was made in it and isn't
+//! released, and by each of its callbacks that may still run or runs. It goes with the step after which
+//! nothing holds it any more; so no callback of a library that is gone is ever run.
+//!
+//! A `LibraryBook` is a machine of any kind with the libraries of its program, and is seen as a `Stand`
+//! (specs/Shelves): the machine's recording, and a shelf of what was loaded and what was made in which
+//! library. `open` takes all memory. `step` makes a call of an actor, and comes to what the definition
+//! `step_at` (specs/Libraries) says; `holds` tells by how much a library is held, and `was_unloaded` whether
+//! the last step let it go; `book` is the machine. The README beside this folder tells what is counted so
+//! that none of them looks through the machine's world.
+//!
+//! ```text
+//! let mut book = LibraryBook::<Book>::open(alloc, program_limits(1, 4), 65_536)?;
+//! let library = LibraryId(1);
+//! book.step(Who::Client(1), LibCall::Load { library });              // LibAnswer::Done
+//! book.step(Who::Client(1), LibCall::Pool { call: submit, library }); // Pool(Done(Queued { first: 1, count: 1 }))
+//! book.step(Who::Client(1), LibCall::Free { library });              // Done: the callback still holds it
+//! book.holds(library)                                                // 1
+//! // behind the callback's return
+//! book.was_unloaded(library)                                         // true
+//! ```
 
 #![tactic(auto)]
 

@@ -1,7 +1,8 @@
 //! How often each library is loaded, and what was made in it.
 
 ghost use Rattle.std.specs.Prelude.{◌≡◌, ◌+◌, ◌-◌, ◌^◌, ◌<◌, ◌≤◌, ℕ, All, [], ◌∷◌, ◌++◌, length, replicate, slice_index_or, slice_set, IfOk};
-ghost use Rattle.tp_library.specs.Beside.{none_held, Stocked};
+ghost use Rattle.tp_library.specs.Shelved.{Stocked};
+ghost use Rattle.tp_library.specs.Tallied.{none_held};
 ghost use Rattle.tp_library.specs.Shelves.{library_at, library_of_object, library_of_simple, load};
 ghost use Rattle.tp_library.specs.Libraries.{freed_slot, slot_of, with_load, with_slot};
 
@@ -24,7 +25,7 @@ pub(crate) struct Shelf {
 }
 
 impl Model for Shelf {
-    ghost use Rattle.tp_library.specs.Beside.{Stocked};
+    ghost use Rattle.tp_library.specs.Shelved.{Stocked};
 
     ghost Value = { Stocked };
 

@@ -69,7 +69,8 @@ impl Tally {
 
     /// Less what the other has of each, and not below 0.
     pub(crate) fn take_off(&mut self, other: &Tally)
-        ensures { (library : ℕ) → library ≤ LIBRARY_LIMIT → at self.new library ≡ at self.old library - at other.now library }
+        ensures less { (library : ℕ) → library ≤ LIBRARY_LIMIT → at self.new library ≡ at self.old library - at other.now library }
+        ensures many { length self.new ≡ LIBRARY_LIMIT + 1 }
     {
         let less = other.numbers.as_slice();
         for library in 0..self.numbers.len() {

@@ -1,6 +1,6 @@
-use Rattle.std.proofs.Common.{◌≡◌, ◌+◌, ◌≤◌}
+use Rattle.std.proofs.Common.{◌≡◌, ◌+◌}
 use Rattle.std.specs.Prelude.{replicate, vec_capacity, vec_len}
-use Rattle.tp_library.specs.Beside.{none_held}
+use Rattle.tp_library.specs.Tallied.{none_held}
 use Rattle.tp_library.proofs.counts.Counts.open.Given as goal
 
 abbrev pub invariant-loop : goal.invariant-loop

@@ -1,4 +1,4 @@
-use Rattle.std.proofs.Common.{rules, ◌≡◌, ◌<◌, ◌∙◌, ap, arith, length, subst}
+use Rattle.std.proofs.Common.{rules, ◌<◌, ◌∙◌, ap, arith, length}
 use Rattle.std.proofs.lemmas.List.Sorted.{answers_always}
 use Rattle.tp_library.proofs.Halving.{simple_found, simple_missing, Made}
 use Rattle.tp_library.proofs.shelf.Shelf.of_simple.Goals as goal
