@@ -1,6 +1,6 @@
 -- The lines of what a step came to.
 use Rattle.std.proofs.Common.{◌≡◌, ℕ, zero, suc, ◌+◌, ◌<◌, ◌≤◌, Bool, true, false, cond, List, [], ◌∷◌, ◌++◌, map, filter, refl, sym, ap, ap₂, ◌∙◌, arith}
-use Rattle.std.specs.Prelude.{decimal}
+use Rattle.std.specs.Prelude.{decimal, Err, Ok, OnOk, Result}
 use Rattle.std.specs.List.{flat_map, range_with_len}
 use Rattle.std.proofs.lemmas.List.{append-nil, append_assoc, map-append}
 use Rattle.std.proofs.lemmas.List.Elements.{filter-append}
@@ -83,3 +83,7 @@ line_told t next who call answer gone before printed after answers leads lets_go
     all : after ≡ before ++ (answer_text answer ++ 10 ∷ unloaded_to gone 255)
     all = ends ∙ ap (λ x. x ++ unloaded_to gone 255) prints ∙ append_assoc before (answer_text answer ++ 10 ∷ []) (unloaded_to gone 255)
         ∙ ap (λ x. before ++ x) (append_assoc (answer_text answer) (10 ∷ []) (unloaded_to gone 255))
+
+pub on_ok : {T E A B : Type 0} (r : Result T E) → (A → B) → OnOk r A → OnOk r B
+on_ok (Ok value) f a = f a
+on_ok (Err error) f a = tt
