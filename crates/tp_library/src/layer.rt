@@ -73,10 +73,7 @@ fn print_answer(answer: &LibAnswer, out: &mut Lines) -> Result<(), AllocError>
 }
 
 // Prints a line for each library that the last step let go.
-fn print_unloaded<B: Recorded>(
-    book: &LibraryBook<B>,
-    out: &mut Lines,
-) -> Result<(), AllocError>
+fn print_unloaded<B: Recorded>(book: &LibraryBook<B>, out: &mut Lines) -> Result<(), AllocError>
     ensures { OnOk result (out.new ≡ out.old ++ trace_text (map unloaded_text (filter (was_unloaded book.now) (range_with_len 1 LIBRARY_LIMIT)))) }
 {
     for number in 0..LIBRARY_LIMIT {
