@@ -3,49 +3,50 @@
 # shellcheck shell=bash
 
 # --- Places of faults
-# A column and a line, which stands behind a good one.
-while IFS=: read -r column line; do
-    input=$'c1 load l255\n'"$line"$'\n'
-    try "the place of a fault: '$line'" 2 '' $'tpool: bad line 2 column '"$column"$'\n' "$program" libraries
-done <<'END'
-10:c1 load l0
-10:c1 load l
-10:c1 load l01
-12:c1 load l256
-13:c1 load l1000
-8:c1 load
-9:c1 load 1
-9:c1 load L1
-8:c1 loadx
-8:c1 loads l1
-7:c1 fre l1
-8:c1 free
-8:c1 freed l1
-11:c1 free-on l1
-18:c1 free-on-return1
-20:c1 free-on-return l-1
-21:c1 free-on-return l1 
-11:c1 load l1 l2
-11:c1 load l1 -> ok
-4:c1  load l1
-1:load l1
-3:c17 load l1
-3:w65 load l1
-12:c1 submit 1 l1
-15:c1 create-pool l1
-16:c1 close work 1 l1
-45:c1 create work r1 x0 p0 normal short g0 q0 l0
-44:c1 create work r1 x0 p0 normal short g0 q0  l1
-46:c1 create work r1 x0 p0 normal short g0 q0 l1 l2
-43:c1 create work r1 x0 p0 normal short g0 q0l1
-44:c1 create work r1 x0 p0 normal short g0 q0 
-44:c1 create work r1 x0 p0 normal short g0 q0 1
-42:c1 create work r1 x0 p0 normal short g0 q1 l1
-53:c1 create timer r1 x0 p0 high persistent g9 q65535 l01
-38:c1 create work r1 x0 p0 normal short l1
-49:c1 submit-simple r1 x0 p0 normal short g0 q0 l256
-47:c1 submit-simple r1 x0 p0 normal short g0 q0 l
-END
+# Each is a column and a line, which stands behind a good one.
+places=(
+    '10:c1 load l0'
+    '10:c1 load l'
+    '10:c1 load l01'
+    '12:c1 load l256'
+    '13:c1 load l1000'
+    '8:c1 load'
+    '9:c1 load 1'
+    '9:c1 load L1'
+    '8:c1 loadx'
+    '8:c1 loads l1'
+    '7:c1 fre l1'
+    '8:c1 free'
+    '8:c1 freed l1'
+    '11:c1 free-on l1'
+    '18:c1 free-on-return1'
+    '20:c1 free-on-return l-1'
+    '21:c1 free-on-return l1 '
+    '11:c1 load l1 l2'
+    '11:c1 load l1 -> ok'
+    '4:c1  load l1'
+    '1:load l1'
+    '3:c17 load l1'
+    '3:w65 load l1'
+    '12:c1 submit 1 l1'
+    '15:c1 create-pool l1'
+    '16:c1 close work 1 l1'
+    '45:c1 create work r1 x0 p0 normal short g0 q0 l0'
+    '44:c1 create work r1 x0 p0 normal short g0 q0  l1'
+    '46:c1 create work r1 x0 p0 normal short g0 q0 l1 l2'
+    '43:c1 create work r1 x0 p0 normal short g0 q0l1'
+    '44:c1 create work r1 x0 p0 normal short g0 q0 '
+    '44:c1 create work r1 x0 p0 normal short g0 q0 1'
+    '42:c1 create work r1 x0 p0 normal short g0 q1 l1'
+    '53:c1 create timer r1 x0 p0 high persistent g9 q65535 l01'
+    '38:c1 create work r1 x0 p0 normal short l1'
+    '49:c1 submit-simple r1 x0 p0 normal short g0 q0 l256'
+    '47:c1 submit-simple r1 x0 p0 normal short g0 q0 l'
+)
+for place in "${places[@]}"; do
+    input=$'c1 load l255\n'"${place#*:}"$'\n'
+    try "the place of a fault: '${place#*:}'" 2 '' "tpool: bad line 2 column ${place%%:*}"$'\n' "$program" libraries
+done
 for line in 'c1 load l1:11' 'c1 load l25:12' 'c1 load:8' 'c1 free-on-return l255:23' 'c1 create work r1 x0 p0 normal short g0 q0:43' 'c1 create work r1 x0 p0 normal short g0 q0 :44'; do
     input=${line%:*}
     try "no last line feed: '$input'" 2 '' "tpool: bad line 1 column ${line#*:}"$'\n' "$program" libraries
