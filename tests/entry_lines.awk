@@ -1,5 +1,5 @@
-# The lines of calls and of answers, from the file entry_lines, which is read first: `call` or `answer`, and the words
-# behind an actor or an arrow. A word is what may stand there, with `|` between each two, or a name for that (`choices`).
+# The lines of calls and of answers, from the file entry_lines, which is read first: `call`, `library` for a call that only
+# a trace with libraries may have, or `answer`, and the words behind an actor or an arrow. A word is what may stand there, with `|` between each two, or a name for that (`choices`).
 # What may stand there is a text, a number, or a text in front of a number. A number has a name in capitals, and is one
 # from `least` to `most`.
 
@@ -27,8 +27,9 @@ BEGIN {
     most["TICKS"] = "9223372036854775807"
     most["PAST"] = "9223372036854775808"
     most["CONTEXT"] = most["CLEANUP"] = most["CALLBACK"] = most["FIRST"] = most["BYTES"] = "18446744073709551615"
+    most["LIBRARY"] = "255"
     for (name in most) least[name] = 0
-    least["CLIENT"] = least["WORKER"] = least["ROUTINE"] = least["NUMBER"] = least["UNITS"] = least["PAST"] = 1
+    least["CLIENT"] = least["WORKER"] = least["ROUTINE"] = least["NUMBER"] = least["UNITS"] = least["PAST"] = least["LIBRARY"] = 1
 }
 
 FILENAME == ARGV[1] {

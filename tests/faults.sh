@@ -71,6 +71,8 @@ fail_commands() {
     fail_all 'a trace' "memory $streams" "$program" trace
     fail_all 'the history of a trace' "memory $streams" "$program" history
     PIECE=16 fail_all 'a trace in pieces' 'read write' "$program" trace
+    input=$(<"$here/examples/plugin.libraries")$'\n'
+    fail_all 'a trace with libraries' "memory $streams" "$program" libraries
     input=$'c1 submit 01\n'
     fail_all 'a bad line' "memory $streams" "$program" trace
     input=$(<"$here/examples/shutdown.history")$'\n'

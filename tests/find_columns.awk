@@ -20,7 +20,9 @@ function column_of(said,    reach) {
 function along_line(    reach) {
     reach = timed ? then_text(along_number("TICKS", 1), " ") : 1
     if (reach > 0) reach = along_word("WHO", reach)
-    reach = then_kind(then_text(reach, " "), "call")
+    reach = then_text(reach, " ")
+    if (of == "library") return further(then_kind(reach, "call"), then_kind(reach, "library"))
+    reach = then_kind(reach, "call")
     if (of == "call") return reach
     reach = then_kind(then_text(reach, " -> "), "answer")
     return further(reach, along_text("end " row - 1, 1))
