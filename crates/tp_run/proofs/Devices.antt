@@ -1,6 +1,7 @@
 -- What the program makes of devices.
-use Rattle.std.proofs.Common.{◌∷◌, ◌≡◌, ℕ, ◌+◌, ◌≤◌, List, [], ◌++◌, length, Result, Ok, Err, refl, sym, ap, ◌∙◌, subst, arith, append_assoc, ap₂, ⊎_elim, eqb-true, zero, suc, ◌==◌, true, false, Bool, ◌⊎◌, inl, inr}
+use Rattle.std.proofs.Common.{◌∷◌, ◌≡◌, ℕ, ◌+◌, ◌≤◌, List, [], ◌++◌, length, Result, Ok, Err, refl, sym, ap, ◌∙◌, subst, arith, append_assoc, ap₂, ⊎_elim, eqb-true, zero, suc, ◌==◌, true, false}
 use Rattle.std.specs.Prelude.{map}
+use Rattle.std.proofs.lemmas.Bool.{cases_Bool}
 use Rattle.std.proofs.lemmas.Bool.Decides.{nat_tests}
 use Rattle.std.specs.Result.{IsErrAnd}
 use Rattle.std.specs.Global.{Vec}
@@ -120,10 +121,6 @@ completed devices posted r new calls is calls_are new_is have =
 
 -- ---- one device at most
 
-true_or_false : (b : Bool) → (b ≡ true) ⊎ (b ≡ false)
-true_or_false true = inl refl
-true_or_false false = inr refl
-
 abbrev first_posted : Completion → Posted
 first_posted c = record { device = 1; completion = c }
 
@@ -148,7 +145,7 @@ all_first (x ∷ xs) none =
     let head : x ≡ first_posted x.completion = λ i. record { device = one i; completion = x.completion } in
     ap₂ (λ (y : Posted) (ys : List Posted). y ∷ ys) head rest ∙ ap (λ (cs : List Completion). map first_posted cs) (sym (here 1 x xs is)))
     (λ (apart : (x.device == 1) ≡ false). let wrong : x.completion ∷ of x.device xs ≡ [] = sym (here x.device x xs (same_device x.device)) ∙ none x.device apart in absurd cc)
-    (true_or_false (x.device == 1))
+    (cases_Bool (x.device == 1))
   where
     turned : (d : ℕ) → (d == 1) ≡ false → (1 == d) ≡ false
     turned d apart = grind (arith, nat_tests, apart)
