@@ -1,5 +1,6 @@
 pub mod Above
 pub mod Acting
+pub mod AllAsked
 pub mod Answering
 pub mod Asked
 pub mod Asking

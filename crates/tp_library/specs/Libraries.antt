@@ -121,6 +121,27 @@ unless_refused None t made = made
 abbrev pub step_at : Stand → Who → LibCall → Stand × LibAnswer
 step_at t who call = unless_refused (refusal t who call) t (made_at t who call)
 
+-- what the machine is asked: a call of it that isn't refused here
+abbrev pub asked : Who → LibCall → List (Who × Call)
+asked who (Pool call library) = (who, call) ∷ []
+asked who call = []
+
+abbrev pub asked_unless : Option LibRefusal → List (Who × Call) → List (Who × Call)
+asked_unless (Some refusal) calls = []
+asked_unless None calls = calls
+
+abbrev pub asked_by : Stand → Who → LibCall → List (Who × Call)
+asked_by t who call = asked_unless (refusal t who call) (asked who call)
+
+-- the stand that calls lead to one after another, and what the machine is asked by them
+abbrev pub stand_after : Stand → List (Who × LibCall) → Stand
+stand_after t [] = t
+stand_after t (call ∷ calls) = stand_after (step_at t call.0 call.1).0 calls
+
+abbrev pub all_asked : Stand → List (Who × LibCall) → List (Who × Call)
+all_asked t [] = []
+all_asked t (call ∷ calls) = asked_by t call.0 call.1 ++ all_asked (step_at t call.0 call.1).0 calls
+
 -- a step from one stand to the other lets the library go
 abbrev pub is_unloaded : Stand → Stand → ℕ → Bool
 is_unloaded before now library = nat_lt 0 (holds before library) && (holds now library == 0)

@@ -1,8 +1,9 @@
 //! A machine and its libraries.
 
-ghost use Rattle.std.specs.Prelude.{◌≡◌, ◌+◌, ◌-◌, ◌*◌, ◌^◌, ◌<◌, ◌≤◌, ℕ, Err, IfErr, IfOk, false, length};
+ghost use Rattle.std.specs.Prelude.{◌≡◌, ◌+◌, ◌-◌, ◌*◌, ◌^◌, ◌<◌, ◌≤◌, ℕ, List, Err, IfErr, IfOk, false, length};
 ghost use Rattle.recorded.specs.declared.OpenFault.TheVariants.{NoMemory, TooSmall};
-ghost use Rattle.recorded.specs.Recordings.{world_behind};
+ghost use Rattle.recorded.specs.Recordings.{all_made, world_behind};
+ghost use Rattle.tp_base.specs.declared.ids.Who.{Who as Actor};
 ghost use Rattle.tp_base.specs.Ranges.{AreLimitsInRange, IsCallInRange};
 ghost use Rattle.tp_model.specs.History.{IsLegal};
 ghost use Rattle.tp_model.specs.Laws.{KeepsLaws};
@@ -10,9 +11,10 @@ ghost use Rattle.tp_model.specs.Laws.Once.{left};
 ghost use Rattle.tp_library.specs.Kept.{stand_of, IsKept};
 ghost use Rattle.tp_library.specs.Rows.{counted_left, rows_in};
 ghost use Rattle.tp_library.specs.Laws.{AreLoaded};
-ghost use Rattle.tp_library.specs.Libraries.{is_unloaded, may_have_library, opening, step_at, IsLibCallInRange, IsLibrary};
+ghost use Rattle.tp_library.specs.declared.LibCall.{LibCall as Asked};
+ghost use Rattle.tp_library.specs.Libraries.{all_asked, is_unloaded, may_have_library, opening, stand_after, step_at, IsLibCallInRange, IsLibrary};
 ghost use Rattle.tp_library.specs.Seen.{was_unloaded, IsLibAnswerInRange};
-ghost use Rattle.tp_library.specs.Shelves.{holds};
+ghost use Rattle.tp_library.specs.Shelves.{holds, Stand};
 ghost use Rattle.tp_library.specs.Tallies.{at};
 
 use crate::beside::Beside;
@@ -125,6 +127,14 @@ impl<B: Recorded> LibraryBook<B> {
         &self.book
     }
 }
+
+/// What calls with libraries lead to one after another has made on its machine just the calls of it that
+/// weren't refused here, in their order. It does nothing: who calls it knows this, and by `made_is_played`
+/// of recorded that the history goes on with their entries.
+#[tactic(auto, using(crate::proofs::AllAsked::asked_made))]
+pub fn asked_is_made()
+    ensures { (t : Stand) (calls : List (Actor × Asked)) → (stand_after t calls).recording ≡ all_made t.recording (all_asked t calls) }
+{}
 
 // A call of the machine. What it makes is of a library, or of none where that is 0.
 fn ask<B: Recorded>(

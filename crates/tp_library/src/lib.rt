@@ -35,7 +35,7 @@ mod shelf;
 mod tally;
 mod told;
 
-pub use book::LibraryBook;
+pub use book::{LibraryBook, asked_is_made};
 pub use layer::play_libraries;
 use tp_base::answers::Outcome;
 use tp_base::calls::Call;
