@@ -31,6 +31,7 @@ pub type CheckFault = TextFault;
 /// `Legal` comes exactly where each is. Else the first line with a wrong answer or a wrong moment is named: `NotLegal`
 /// where its answer is wrong, and `WrongMoment` where only its moment is. `At` comes exactly where the bytes are no
 /// history, and `NoMemory` where memory was refused.
+#[inline(never)]
 pub fn check<B: Recorded>(alloc: Global, bytes: &[u8]) -> Result<Verdict, CheckFault>
     ensures ok { IfOk result (λ verdict. IsJudged bytes.now verdict) }
     ensures only { (header : FirstLine) (lines : List HistoryLine) → IsHistory bytes.now header lines →
