@@ -14,6 +14,8 @@ mod expect;
 #[cfg(test)]
 mod kept;
 #[cfg(test)]
+mod legacy;
+#[cfg(test)]
 mod libraries;
 #[cfg(test)]
 mod program;

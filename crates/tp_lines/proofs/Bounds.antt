@@ -16,9 +16,10 @@ use Rattle.tp_lines.specs.declared.words.Word.{Word}
 use Rattle.tp_lines.specs.Calls.{CallLines, IsWhoInRange, row_of}
 use Rattle.tp_lines.specs.Parts.{AreFit, FitsForm, after, form_of, number_of, number_part, parts_of, parts_text, room, room_of, text_of_part}
 use Rattle.tp_lines.specs.Rows.{RowTexts}
-use Rattle.tp_lines.specs.Values.{due_of, named_of}
+use Rattle.tp_lines.specs.Values.{due_of, millis_of, named_of}
 use Rattle.tp_lines.specs.Words.{text_of_who}
 use Rattle.tp_lines.proofs.DueFacts.{due_short}
+use Rattle.tp_lines.proofs.MillisFacts.{millis_short}
 use Rattle.tp_lines.proofs.NamedFacts.{named_short}
 use Rattle.tp_lines.proofs.PartFacts.{IsSoundForm, sound_form}
 use Rattle.tp_lines.proofs.RowFacts.{room_after}
@@ -37,6 +38,7 @@ short_by_form (form.Number least most) f p s h = subst (λ q. length (text_of_pa
 short_by_form (form.Lettered letter least most) f p s h = subst (λ q. length (text_of_part q) ≤ 30) (sym h.is) (number_short f (number_of p) (omega (arith, h.at_most, s.bits)))
 short_by_form form.Due f p s h = subst (λ q. length (text_of_part q) ≤ 30) (sym h.is) (due_short (due_of p) h.in_range)
 short_by_form form.Named f p s h = subst (λ q. length (text_of_part q) ≤ 30) (sym h.is) (named_short (named_of p) h.in_range)
+short_by_form form.Millis f p s h = subst (λ q. length (text_of_part q) ≤ 30) (sym h.is) (millis_short (millis_of p) h.in_range)
 short_by_form form.Choice f p s h = subst (λ q. length (text_of_part q) ≤ 30) (sym h.is) (short h.word)
 
 parts_short : (parts : List Part) (fields : List Field) → AreFit fields parts → length (parts_text parts) ≤ 31 * room fields

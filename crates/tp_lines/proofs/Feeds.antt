@@ -18,9 +18,10 @@ use Rattle.tp_lines.specs.Calls.{CallLines, IsWhoInRange, row_of}
 use Rattle.tp_lines.specs.Parts.{AreFit, FitsForm, after, form_of, number_of, number_part, parts_of, parts_text, text_of_part}
 use Rattle.tp_lines.specs.Rows.{RowTexts}
 use Rattle.tp_lines.specs.Shapes.{text_of_word}
-use Rattle.tp_lines.specs.Values.{due_of, named_of}
+use Rattle.tp_lines.specs.Values.{due_of, millis_of, named_of}
 use Rattle.tp_lines.specs.Words.{text_of_who}
 use Rattle.tp_lines.proofs.DueFacts.{due_lacks}
+use Rattle.tp_lines.proofs.MillisFacts.{millis_lacks}
 use Rattle.tp_lines.proofs.NamedFacts.{named_lacks}
 use Rattle.tp_lines.proofs.EntryFacts.{arrow_text, entry_pair}
 use Rattle.tp_lines.proofs.PartFacts.{IsSoundForm, sound_form}
@@ -40,6 +41,7 @@ feedless_by_form (form.Number least most) f p s h = subst (λ q. Feedless (text_
 feedless_by_form (form.Lettered letter least most) f p s h = subst (λ q. Feedless (text_of_part q)) (sym h.is) (number_feedless f (number_of p) (omega (arith, h.at_most, s.bits)))
 feedless_by_form form.Due f p s h = subst (λ q. Feedless (text_of_part q)) (sym h.is) (due_lacks 10 (omega arith) (due_of p) h.in_range)
 feedless_by_form form.Named f p s h = subst (λ q. Feedless (text_of_part q)) (sym h.is) (named_lacks 10 (omega arith) (named_of p) h.in_range)
+feedless_by_form form.Millis f p s h = subst (λ q. Feedless (text_of_part q)) (sym h.is) (millis_lacks 10 (omega arith) (millis_of p) h.in_range)
 feedless_by_form form.Choice f p s h = subst (λ q. Feedless (text_of_part q)) (sym h.is) (solid_lacks 10 (omega arith) (text_of_word h.word) (solid h.word))
 
 parts_feedless : (parts : List Part) (fields : List Field) → AreFit fields parts → Feedless (parts_text parts)
@@ -48,7 +50,7 @@ parts_feedless (p ∷ parts) [] h = absurd h
 parts_feedless (p ∷ parts) (f ∷ fields) h =
     lacks_append 10 (text_of_part p) (parts_text parts) (feedless_by_form (form_of f) f p (sound_form f) h.0) (parts_feedless parts (after p fields) h.1)
 
-row_feedless : {V : Type 0} (table : Field) (row_of : V → Word × List Part) (v : V) (t : List ℕ) → RowTexts table row_of v t → Feedless t
+pub row_feedless : {V : Type 0} (table : Field) (row_of : V → Word × List Part) (v : V) (t : List ℕ) → RowTexts table row_of v t → Feedless t
 row_feedless table row_of v t a = subst Feedless (sym a.split) (parts_feedless (parts_of (row_of v)) (table ∷ []) a.in_range)
 
 pub who_feedless : (who : Who) → IsWhoInRange who → Feedless (text_of_who who)

@@ -1,17 +1,19 @@
 mod Agree
 mod AnswerFacts
+pub mod Apart
 pub mod Bounds
-mod CallFacts
+pub mod CallFacts
 mod Choices
 pub mod DueFacts
 pub mod EntryFacts
 mod Examples
 pub mod Feeds
+mod MillisFacts
 mod NamedFacts
 mod Outcomes
 mod PartFacts
-mod Rebuilt
-mod RowFacts
-mod Tables
+pub mod Rebuilt
+pub mod RowFacts
+pub mod Tables
 pub mod WhoFacts
 pub mod WordRules

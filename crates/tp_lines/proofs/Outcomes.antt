@@ -1,10 +1,5 @@
 -- Two outcomes with one text are one outcome.
-use Rattle.std.proofs.Common.{◌≡◌, ℕ, List, [], ◌∷◌, ◌++◌, refl, sym, ap, ◌∙◌, subst, arith, IsTrue, Option, Some, None}
-use Rattle.line_grammar.specs.Parts.{Opens}
-use Rattle.line_grammar.specs.Words.{lacks}
-use Rattle.line_grammar.proofs.Cuts.{Cut, cut, further, nearer, same}
-use Rattle.line_grammar.proofs.TraceFacts.{not_within}
-use Rattle.line_grammar.proofs.WordFacts.{solid_lacks}
+use Rattle.std.proofs.Common.{◌≡◌, List, [], ◌∷◌, refl, sym, ap, ◌∙◌, Option, Some, None}
 use Rattle.tp_base.specs.declared.answers.Answer.{Answer}
 use Rattle.tp_base.specs.declared.answers.Look.{Look}
 use Rattle.tp_base.specs.declared.answers.Look.TheVariants as look
@@ -13,18 +8,17 @@ use Rattle.tp_base.specs.declared.answers.Outcome.TheVariants as outcome
 use Rattle.tp_lines.specs.declared.parts.Part.{Part}
 use Rattle.tp_lines.specs.declared.parts.Part.TheVariants as part
 use Rattle.tp_lines.specs.declared.words.Field.TheVariants as field
-use Rattle.tp_lines.specs.declared.words.TheConstants.{WORDS}
 use Rattle.tp_lines.specs.declared.words.Word.{Word}
 use Rattle.tp_lines.specs.declared.words.Word.TheVariants as word
 use Rattle.tp_lines.specs.AnswerRows.{answer_at}
 use Rattle.tp_lines.specs.Answers.{FitsAnswer, FitsOutcome, row_of_answer, row_of_full, row_of_look, text_of_outcome}
-use Rattle.tp_lines.specs.Parts.{AreFit, IsWordPart, parts_of, parts_text, row_text}
-use Rattle.tp_lines.specs.Shapes.{table_of, text_of_word}
+use Rattle.tp_lines.specs.Parts.{AreFit, IsWordPart, parts_of, row_text}
+use Rattle.tp_lines.specs.Shapes.{table_of}
 use Rattle.tp_lines.specs.Values.{part_at, small_of, large_of, word_of}
 use Rattle.tp_lines.proofs.AnswerFacts.{answer_table}
+use Rattle.tp_lines.proofs.Apart.{rows_apart}
 use Rattle.tp_lines.proofs.RowFacts.{parts_part}
 use Rattle.tp_lines.proofs.Tables.{one_row}
-use Rattle.tp_lines.proofs.WordRules.{find, found, rank, solid}
 
 -- what was shown, told from its parts
 abbrev target_at : Word → List Part → Option Outcome
@@ -52,32 +46,6 @@ look_back : (l : Look) → shown (parts_of (row_of_look l)) ≡ Some (outcome.Lo
 look_back look.Empty = refl
 look_back _ = refl
 
--- the words of two texts are one, where a space or nothing follows each
-first_word : (a r b s : List ℕ) → IsTrue (lacks 32 a) → IsTrue (lacks 32 b) → Opens 32 r → Opens 32 s → a ++ r ≡ b ++ s → a ≡ b
-first_word a r b s la lb opened opened_too e = by_cut (cut a r b s e)
-  where
-    by_cut : Cut a r b s → a ≡ b
-    by_cut (further x m f g) = absurd (not_within 32 x b m a la f (subst (λ l. Opens 32 l) g opened_too))
-    by_cut (nearer x m f g) = absurd (not_within 32 x a m b lb f (subst (λ l. Opens 32 l) g opened))
-    by_cut (same f g) = f
-
--- no answer begins as a look or full
-not_shown : (w v : Word) → table_of w ≡ field.Answer → table_of v ≡ field.Look → text_of_word w ≡ text_of_word v → find 2 (text_of_word v) WORDS ≡ None → ⊥
-not_shown w v e f g none =
-    let same : Some w ≡ None = sym (found w) ∙ ap (λ t. find (rank t) (text_of_word w) WORDS) e ∙ ap (λ t. find 2 t WORDS) g ∙ none in
-    let no_such : ⊥ = cc in no_such
-
-opens_parts : (parts : List Part) → Opens 32 (parts_text parts)
-opens_parts [] = tt
-opens_parts (p ∷ parts) = refl
-
-apart : (row : Word × List Part) (w : Word) (parts : List Part) → table_of row.0 ≡ field.Answer → table_of w ≡ field.Look
-    → find 2 (text_of_word w) WORDS ≡ None → row_text row ≡ row_text (w, parts) → ⊥
-apart row w parts e f none g =
-    not_shown row.0 w e f (first_word (text_of_word row.0) (parts_text row.1) (text_of_word w) (parts_text parts)
-    (solid_lacks 32 (omega arith) (text_of_word row.0) (solid row.0)) (solid_lacks 32 (omega arith) (text_of_word w) (solid w))
-    (opens_parts row.1) (opens_parts parts) g) none
-
 first_fits : (w : Word) → IsWordPart field.Answer (part.Word w) → table_of w ≡ field.Answer
 first_fits w h = ap (λ p. table_of (word_of p)) h.is ∙ h.table
 
@@ -98,10 +66,10 @@ shown_one row other x y h k e f g =
 
 pub one_outcome : (x y : Outcome) → FitsOutcome x → FitsOutcome y → text_of_outcome x ≡ text_of_outcome y → x ≡ y
 one_outcome (outcome.Done a) (outcome.Done b) h k e = ap (λ z. outcome.Done z) (answers_one a b h k e)
-one_outcome (outcome.Done a) (outcome.Look l) h k e = absurd (apart (row_of_answer a) word.Look (row_of_look l).1 (answer_first a h) refl refl e)
-one_outcome (outcome.Done a) (outcome.Full r c) h k e = absurd (apart (row_of_answer a) word.Full (row_of_full r c).1 (answer_first a h) refl refl e)
-one_outcome (outcome.Look l) (outcome.Done b) h k e = absurd (apart (row_of_answer b) word.Look (row_of_look l).1 (answer_first b k) refl refl (sym e))
-one_outcome (outcome.Full r c) (outcome.Done b) h k e = absurd (apart (row_of_answer b) word.Full (row_of_full r c).1 (answer_first b k) refl refl (sym e))
+one_outcome (outcome.Done a) (outcome.Look l) h k e = absurd (rows_apart field.Answer (row_of_answer a) word.Look (row_of_look l).1 (answer_first a h) refl e)
+one_outcome (outcome.Done a) (outcome.Full r c) h k e = absurd (rows_apart field.Answer (row_of_answer a) word.Full (row_of_full r c).1 (answer_first a h) refl e)
+one_outcome (outcome.Look l) (outcome.Done b) h k e = absurd (rows_apart field.Answer (row_of_answer b) word.Look (row_of_look l).1 (answer_first b k) refl (sym e))
+one_outcome (outcome.Full r c) (outcome.Done b) h k e = absurd (rows_apart field.Answer (row_of_answer b) word.Full (row_of_full r c).1 (answer_first b k) refl (sym e))
 one_outcome (outcome.Look l) (outcome.Look m) h k e = shown_one (row_of_look l) (row_of_look m) (outcome.Look l) (outcome.Look m) h k e (look_back l) (look_back m)
 one_outcome (outcome.Look l) (outcome.Full r c) h k e = shown_one (row_of_look l) (row_of_full r c) (outcome.Look l) (outcome.Full r c) h k e (look_back l) refl
 one_outcome (outcome.Full r c) (outcome.Look l) h k e = shown_one (row_of_full r c) (row_of_look l) (outcome.Full r c) (outcome.Look l) h k e refl (look_back l)

@@ -12,11 +12,12 @@ use Rattle.tp_lines.specs.declared.parts.Part.{Part}
 use Rattle.tp_lines.specs.declared.parts.Part.TheVariants as part
 use Rattle.tp_lines.specs.declared.words.Field.{Field}
 use Rattle.tp_lines.specs.declared.words.Field.TheVariants as field
-use Rattle.tp_lines.specs.Choices.{BodyTexts, ChoiceTexts, DueTexts, NamedTexts, PartTexts, default_word}
-use Rattle.tp_lines.specs.Parts.{Fits, FitsForm, IsDuePart, IsNamedPart, IsNumberPart, IsWordPart, form_of, number_of, number_part, text_of_part}
-use Rattle.tp_lines.specs.Values.{due_of, named_of}
+use Rattle.tp_lines.specs.Choices.{BodyTexts, ChoiceTexts, DueTexts, MillisTexts, NamedTexts, PartTexts, default_word}
+use Rattle.tp_lines.specs.Parts.{Fits, FitsForm, IsDuePart, IsMillisPart, IsNamedPart, IsNumberPart, IsWordPart, form_of, number_of, number_part, text_of_part}
+use Rattle.tp_lines.specs.Values.{due_of, millis_of, named_of}
 use Rattle.tp_lines.proofs.Choices.{choice_part, default_table}
 use Rattle.tp_lines.proofs.DueFacts.{due_read_as, due_written, dues_part}
+use Rattle.tp_lines.proofs.MillisFacts.{millis_part, millis_read_as, millis_written}
 use Rattle.tp_lines.proofs.NamedFacts.{named_read_as, named_written, nameds_part}
 
 number_back : (f : Field) (n : ℕ) → number_of (number_part f n) ≡ n
@@ -119,6 +120,16 @@ module _ (f : Field) where
         record { fits = subst (λ x. FitsForm x f (part.Named kernel)) (sym e) (record { is = refl; in_range = is.0 }); split = is.1 };
   }
 
+  pub millis_spelled : form_of f ≡ form.Millis → IsSpelled f MillisTexts (λ millis. part.Millis millis)
+  millis_spelled e = record {
+    from = λ p t b.
+        let h : IsMillisPart p = subst (λ x. FitsForm x f p) e b.fits in
+        (millis_of p, millis_read_as (millis_of p) t h.in_range (b.split ∙ ap text_of_part h.is), h.is);
+    to = λ millis t a.
+        let is = millis_written millis t a in
+        record { fits = subst (λ x. FitsForm x f (part.Millis millis)) (sym e) (record { is = refl; in_range = is.0 }); split = is.1 };
+  }
+
   pub word_spelled : form_of f ≡ form.Choice → IsSpelled f (ChoiceTexts f) (λ w. part.Word w)
   word_spelled e = record {
     from = λ p t b.
@@ -134,6 +145,7 @@ module _ (f : Field) where
       (led_part letter (Numbers least most) 32 (numbers_part least most 32 s.bits (omega arith)))
   by_form form.Due e s = spelled_part f DueTexts (λ due. part.Due due) (due_spelled e) dues_part
   by_form form.Named e s = spelled_part f NamedTexts (λ kernel. part.Named kernel) (named_spelled e) nameds_part
+  by_form form.Millis e s = spelled_part f MillisTexts (λ millis. part.Millis millis) (millis_spelled e) millis_part
   by_form form.Choice e s = spelled_part f (ChoiceTexts f) (λ w. part.Word w) (word_spelled e) (choice_part f 32 (omega arith))
 
   some_by_form : (x : Form) → form_of f ≡ x → IsSoundForm x → (p : Part) × Fits f p
@@ -141,6 +153,7 @@ module _ (f : Field) where
   some_by_form (form.Lettered letter least most) e s = (number_part f most, subst (λ x. FitsForm x f (number_part f most)) (sym e) (number_fits least most most s.order (omega arith)))
   some_by_form form.Due e s = (part.Due None, subst (λ x. FitsForm x f (part.Due None)) (sym e) (record { is = refl; in_range = tt }))
   some_by_form form.Named e s = (part.Named None, subst (λ x. FitsForm x f (part.Named None)) (sym e) (record { is = refl; in_range = tt }))
+  some_by_form form.Millis e s = (part.Millis None, subst (λ x. FitsForm x f (part.Millis None)) (sym e) (record { is = refl; in_range = tt }))
   some_by_form form.Choice e s =
       (part.Word (default_word f), subst (λ x. FitsForm x f (part.Word (default_word f))) (sym e) (record { word = default_word f; is = refl; table = default_table f e }))
 

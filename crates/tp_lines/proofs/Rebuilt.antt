@@ -13,7 +13,7 @@ use Rattle.tp_lines.specs.declared.words.Word.{Word}
 use Rattle.tp_lines.specs.declared.words.Word.TheVariants as word
 use Rattle.tp_lines.specs.Parts.{AreFit, Fits, FitsForm, IsWordPart, after, form_of, instead_of, number_of, number_part}
 use Rattle.tp_lines.specs.Shapes.{fields_of, table_of}
-use Rattle.tp_lines.specs.Values.{part_at, small_of, large_of, due_of, named_of, word_of, kind_of, priority_of, length_of, persistent_of, how_of, reset_of, signal_of, lock_of, owner_of, flag_of, slot_of, action_of}
+use Rattle.tp_lines.specs.Values.{part_at, small_of, large_of, due_of, millis_of, named_of, word_of, kind_of, priority_of, length_of, persistent_of, how_of, reset_of, signal_of, lock_of, owner_of, flag_of, slot_of, action_of, span_of, once_of}
 
 -- the part of a field, told from a part that stands there
 abbrev pub field_part : Field → Part → Part
@@ -26,6 +26,7 @@ field_part field.Large p = part.Large (large_of p)
 field_part field.Time p = part.Time (large_of p)
 field_part field.Due p = part.Due (due_of p)
 field_part field.Named p = part.Named (named_of p)
+field_part field.Millis p = part.Millis (millis_of p)
 field_part field.Routine p = part.Routine (small_of p)
 field_part field.Context p = part.Context (large_of p)
 field_part field.Cleanup p = part.Cleanup (large_of p)
@@ -45,6 +46,8 @@ field_part field.Owner p = part.Word (word.Owner (owner_of p))
 field_part field.Flag p = part.Word (word.YesNo (flag_of p))
 field_part field.Slot p = part.Word (word.Slot (slot_of p))
 field_part field.Action p = part.Word (word.Action (action_of p))
+field_part field.Span p = part.Word (word.Span (span_of p))
+field_part field.Times p = part.Word (word.Times (once_of p))
 field_part _ p = part.Word (word_of p)
 
 plain_field : (f : Field) (n least most : ℕ) → form_of f ≡ form.Number least most → number_part f n ≡ field_part f (number_part f n)
@@ -63,6 +66,10 @@ named_field : (f : Field) (kernel : Option KernelId) → form_of f ≡ form.Name
 named_field field.Named kernel e = refl
 named_field _ kernel e = cc
 
+millis_field : (f : Field) (millis : Option ℕ) → form_of f ≡ form.Millis → part.Millis millis ≡ field_part f (part.Millis millis)
+millis_field field.Millis millis e = refl
+millis_field _ millis e = cc
+
 word_field : (w : Word) → part.Word w ≡ field_part (table_of w) (part.Word w)
 word_field (word.Kind _) = refl
 word_field _ = refl
@@ -72,6 +79,7 @@ back_by_form (form.Number least most) f p e h = h.is ∙ plain_field f (number_o
 back_by_form (form.Lettered letter least most) f p e h = h.is ∙ lettered_field f (number_of p) letter least most e ∙ ap (λ q. field_part f q) (sym h.is)
 back_by_form form.Due f p e h = h.is ∙ due_field f (due_of p) e ∙ ap (λ q. field_part f q) (sym h.is)
 back_by_form form.Named f p e h = h.is ∙ named_field f (named_of p) e ∙ ap (λ q. field_part f q) (sym h.is)
+back_by_form form.Millis f p e h = h.is ∙ millis_field f (millis_of p) e ∙ ap (λ q. field_part f q) (sym h.is)
 back_by_form form.Choice f p e h = h.is ∙ word_field h.word ∙ ap (λ g. field_part g (part.Word h.word)) h.table ∙ ap (λ q. field_part f q) (sym h.is)
 
 pub field_back : (f : Field) (p : Part) → Fits f p → p ≡ field_part f p
@@ -92,6 +100,7 @@ is_plain field.Result = false
 is_plain field.Refusal = false
 is_plain field.State = false
 is_plain field.Target = false
+is_plain field.OldCall = false
 is_plain _ = true
 
 abbrev is_cancel : List Field → Bool
@@ -116,6 +125,7 @@ plain_by_form (form.Number least most) f p fields h e = ap (λ q. after q fields
 plain_by_form (form.Lettered letter least most) f p fields h e = ap (λ q. after q fields) h.is ∙ plain_number f (number_of p) fields e
 plain_by_form form.Due f p fields h e = ap (λ q. after q fields) h.is
 plain_by_form form.Named f p fields h e = ap (λ q. after q fields) h.is
+plain_by_form form.Millis f p fields h e = ap (λ q. after q fields) h.is
 plain_by_form form.Choice f p fields h e = ap (λ q. after q fields) h.is ∙ plain_word h.word fields (subst (λ g. IsTrue (is_plain g)) (sym h.table) e)
 
 -- the fields behind a part are regular again, and tell the same

@@ -42,6 +42,7 @@ room_by_form (form.Lettered letter least most) f p fields h =
     subst (λ q. room (after q fields) + 1 ≤ room_of f + room fields) (sym h.is) (number_room f (number_of p) fields)
 room_by_form form.Due f p fields h = subst (λ q. room (after q fields) + 1 ≤ room_of f + room fields) (sym h.is) (omega (arith, some_room f))
 room_by_form form.Named f p fields h = subst (λ q. room (after q fields) + 1 ≤ room_of f + room fields) (sym h.is) (omega (arith, some_room f))
+room_by_form form.Millis f p fields h = subst (λ q. room (after q fields) + 1 ≤ room_of f + room fields) (sym h.is) (omega (arith, some_room f))
 room_by_form form.Choice f p fields h =
     subst (λ q. room (after q fields) + 1 ≤ room_of f + room fields) (sym h.is)
     (subst (λ g. room (instead_of (fields_of h.word) fields) + 1 ≤ room_of g + room fields) h.table (instead_room (fields_of h.word) fields (room_of (table_of h.word)) (roomy h.word)))

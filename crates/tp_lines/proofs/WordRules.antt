@@ -49,6 +49,9 @@ rank field.Reset = 15
 rank field.Signal = 16
 rank field.Lock = 17
 rank field.Owner = 18
+rank field.OldCall = 19
+rank field.Span = 20
+rank field.Times = 21
 rank _ = 0
 
 abbrev pub first_of_two : Bool → Word → Option Word → Option Word
@@ -90,6 +93,10 @@ kept (word.Slot slot.Unasked) = (refl, refl)
 kept (word.Slot _) = (refl, refl)
 kept (word.Action action.Section) = (refl, refl)
 kept (word.Action _) = (refl, refl)
+kept (word.Span true) = (refl, refl)
+kept (word.Span false) = (refl, refl)
+kept (word.Times true) = (refl, refl)
+kept (word.Times false) = (refl, refl)
 kept _ = (refl, refl)
 
 rules_kept : (w : Word) → IsTrue (keeps_rules w)

@@ -45,6 +45,10 @@ KernelTexts kernel text = Numbers 0 65535 kernel.0 text
 abbrev pub NamedTexts : Option KernelId → List ℕ → Type 0
 NamedTexts = Optional (codes "none") KernelTexts
 
+-- milliseconds that may be none
+abbrev pub MillisTexts : Option ℕ → List ℕ → Type 0
+MillisTexts = Optional (codes "none") (Numbers 0 4294967295)
+
 -- the texts of one field with the space before it
 abbrev pub PartTexts : Field → Part → List ℕ → Type 0
 PartTexts field = Led 32 (BodyTexts field)
@@ -68,6 +72,9 @@ default_word field.Owner = word.Owner false
 default_word field.Flag = word.YesNo false
 default_word field.Slot = word.Slot slot.Unasked
 default_word field.Action = word.Action action.Event
+default_word field.OldCall = word.CreateQueue
+default_word field.Span = word.Span false
+default_word field.Times = word.Times false
 default_word _ = word.Take
 
 -- the word is one of these

@@ -1,5 +1,5 @@
 -- The parts of a line: what each holds, and its text.
-use Rattle.std.specs.Prelude.{◌≡◌, ℕ, ◌+◌, ◌≤◌, List, [], ◌∷◌, ◌++◌, decimal, nat_eq, if◌then◌else◌}
+use Rattle.std.specs.Prelude.{◌≡◌, ℕ, ◌+◌, ◌≤◌, List, [], ◌∷◌, ◌++◌, decimal, nat_eq, if◌then◌else◌, Option, None, Some}
 use Rattle.tp_base.specs.Ranges.{IsDueInRange, IsNamedInRange}
 use Rattle.tp_lines.specs.declared.parts.Form.{Form}
 use Rattle.tp_lines.specs.declared.parts.Form.TheVariants as form
@@ -9,8 +9,8 @@ use Rattle.tp_lines.specs.declared.words.Field.{Field}
 use Rattle.tp_lines.specs.declared.words.Field.TheVariants as field
 use Rattle.tp_lines.specs.declared.words.Word.{Word}
 use Rattle.tp_lines.specs.Shapes.{fields_of, table_of, text_of_word}
-use Rattle.tp_lines.specs.Values.{due_of, named_of}
-use Rattle.tp_lines.specs.Words.{text_of_due, text_of_named}
+use Rattle.tp_lines.specs.Values.{due_of, millis_of, named_of}
+use Rattle.tp_lines.specs.Words.{text_of_due, text_of_millis, text_of_named}
 
 -- the text of a part behind its space
 abbrev pub text_of_part : Part → List ℕ
@@ -23,6 +23,7 @@ text_of_part (part.Large number) = decimal number
 text_of_part (part.Time time) = decimal time
 text_of_part (part.Due due) = text_of_due due
 text_of_part (part.Named kernel) = text_of_named kernel
+text_of_part (part.Millis millis) = text_of_millis millis
 text_of_part (part.Routine routine) = 114 ∷ decimal routine
 text_of_part (part.Context context) = 120 ∷ decimal context
 text_of_part (part.Cleanup context) = 121 ∷ decimal context
@@ -55,6 +56,7 @@ form_of field.Large = form.Number 0 18446744073709551615
 form_of field.Time = form.Number 0 9223372036854775807
 form_of field.Due = form.Due
 form_of field.Named = form.Named
+form_of field.Millis = form.Millis
 form_of field.Routine = form.Lettered 114 1 65535
 form_of field.Context = form.Lettered 120 0 18446744073709551615
 form_of field.Cleanup = form.Lettered 121 0 18446744073709551615
@@ -122,6 +124,16 @@ pub record IsNamedPart (held : Part) : Type 0 where
   pub is : held ≡ part.Named (named_of held)
   pub in_range : IsNamedInRange (named_of held)
 
+-- a number of milliseconds of 32 bits, if there is one
+abbrev pub IsMillisInRange : Option ℕ → Type 0
+IsMillisInRange None = Unit {0}
+IsMillisInRange (Some millis) = millis ≤ 4294967295
+
+-- the part is a number of milliseconds, or none
+pub record IsMillisPart (held : Part) : Type 0 where
+  pub is : held ≡ part.Millis (millis_of held)
+  pub in_range : IsMillisInRange (millis_of held)
+
 -- the part is a word of the field
 pub record IsWordPart (field : Field) (held : Part) : Type 0 where
   pub word : Word
@@ -133,6 +145,7 @@ FitsForm (form.Number least most) field held = IsNumberPart field least most hel
 FitsForm (form.Lettered letter least most) field held = IsNumberPart field least most held
 FitsForm form.Due field held = IsDuePart held
 FitsForm form.Named field held = IsNamedPart held
+FitsForm form.Millis field held = IsMillisPart held
 FitsForm form.Choice field held = IsWordPart field held
 
 -- the part may stand in the field
@@ -174,6 +187,7 @@ room_of field.Refusal = 2
 room_of field.State = 3
 room_of field.Target = 2
 room_of field.Group = 2
+room_of field.OldCall = 6
 room_of _ = 1
 
 abbrev pub room : List Field → ℕ

@@ -4,7 +4,7 @@ use Rattle.tp_lines.specs.declared.words.Field.{Field}
 use Rattle.tp_lines.specs.declared.words.Field.TheVariants as field
 use Rattle.tp_lines.specs.declared.words.Word.{Word}
 use Rattle.tp_lines.specs.declared.words.Word.TheVariants as word
-use Rattle.tp_lines.specs.Words.{text_of_kind, text_of_priority, text_of_length, text_of_how, text_of_reset, text_of_signal, text_of_lock, text_of_owner, text_of_flag, text_of_slot, text_of_action}
+use Rattle.tp_lines.specs.Words.{text_of_kind, text_of_priority, text_of_length, text_of_how, text_of_reset, text_of_signal, text_of_lock, text_of_owner, text_of_flag, text_of_slot, text_of_action, text_of_span, text_of_times}
 
 pub record Shape : Type 0 where
   pub table : Field
@@ -121,6 +121,16 @@ shape_of (word.Owner owned) = record { table = field.Owner; text = text_of_owner
 shape_of (word.YesNo flag) = record { table = field.Flag; text = text_of_flag flag; fields = [] }
 shape_of (word.Slot slot) = record { table = field.Slot; text = text_of_slot slot; fields = [] }
 shape_of (word.Action action) = record { table = field.Action; text = text_of_action action; fields = [] }
+shape_of word.QueueItem = record { table = field.OldCall; text = codes "queue-item"; fields = field.Routine ∷ field.Context ∷ field.Span ∷ [] }
+shape_of word.Register = record { table = field.OldCall; text = codes "register"; fields = field.Short ∷ field.Routine ∷ field.Context ∷ field.Millis ∷ field.Times ∷ [] }
+shape_of word.Unregister = record { table = field.OldCall; text = codes "unregister"; fields = field.Short ∷ [] }
+shape_of word.CreateQueue = record { table = field.OldCall; text = codes "create-queue"; fields = [] }
+shape_of word.CreateTimer = record { table = field.OldCall; text = codes "create-timer"; fields = field.Short ∷ field.Routine ∷ field.Context ∷ field.Small ∷ field.Small ∷ [] }
+shape_of word.ChangeTimer = record { table = field.OldCall; text = codes "change-timer"; fields = field.Short ∷ field.Short ∷ field.Small ∷ field.Small ∷ [] }
+shape_of word.DeleteTimer = record { table = field.OldCall; text = codes "delete-timer"; fields = field.Short ∷ field.Short ∷ [] }
+shape_of word.DeleteQueue = record { table = field.OldCall; text = codes "delete-queue"; fields = field.Short ∷ [] }
+shape_of (word.Span long) = record { table = field.Span; text = text_of_span long; fields = [] }
+shape_of (word.Times once) = record { table = field.Times; text = text_of_times once; fields = [] }
 
 abbrev pub table_of : Word → Field
 table_of word = (shape_of word).table

@@ -49,6 +49,11 @@ abbrev pub named_of : Part → Option KernelId
 named_of (part.Named kernel) = kernel
 named_of _ = None
 
+-- milliseconds, if there are any
+abbrev pub millis_of : Part → Option ℕ
+millis_of (part.Millis millis) = millis
+millis_of _ = None
+
 abbrev pub word_of : Part → Word
 word_of (part.Word word) = word
 word_of _ = word.Take
@@ -106,3 +111,13 @@ slot_of _ = Unasked
 abbrev pub action_of : Part → ActionKind
 action_of (part.Word (word.Action action)) = action
 action_of _ = Section
+
+-- whether a work item may run long
+abbrev pub span_of : Part → Bool
+span_of (part.Word (word.Span long)) = long
+span_of _ = false
+
+-- whether a registration is for once
+abbrev pub once_of : Part → Bool
+once_of (part.Word (word.Times once)) = once
+once_of _ = false

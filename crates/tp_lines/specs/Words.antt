@@ -1,4 +1,5 @@
--- The texts of words that stand for a choice, of due times, of kernel objects that may be none, and of actors.
+-- The texts of words that stand for a choice, of due times, of kernel objects and milliseconds that may be none, and of
+-- actors.
 use Rattle.std.specs.Prelude.{ℕ, ℤ, Bool, true, false, List, ◌∷◌, codes, decimal, Option, Some, None}
 use Rattle.std.specs.Fmt.{signed_decimal}
 use Rattle.tp_base.specs.declared.answers.ActionKind.{ActionKind}
@@ -80,6 +81,20 @@ text_of_due (Some due) = signed_decimal due
 abbrev pub text_of_named : Option KernelId → List ℕ
 text_of_named None = codes "none"
 text_of_named (Some kernel) = decimal kernel.0
+
+abbrev pub text_of_millis : Option ℕ → List ℕ
+text_of_millis None = codes "none"
+text_of_millis (Some millis) = decimal millis
+
+-- whether a work item may run long
+abbrev pub text_of_span : Bool → List ℕ
+text_of_span true = codes "long"
+text_of_span false = codes "short"
+
+-- whether a registration is for once
+abbrev pub text_of_times : Bool → List ℕ
+text_of_times true = codes "once"
+text_of_times false = codes "repeat"
 
 -- the actors: c1, c2, .. and w1, w2, ..
 abbrev pub text_of_who : Who → List ℕ

@@ -10,7 +10,8 @@
 //! `row_of_answer`, `row_of_look`, `row_of_full`). Its text is theirs, each with one space before it. What stands behind
 //! a word is told by the fields that it brings (`words`), and the range of a number by its field. So one
 //! reader reads all rows (`read_parts`), with the exact place of a fault, and a row tells its call or answer
-//! (`call_at`, `answer_at`).
+//! (`call_at`, `answer_at`). A layer above reads the rows of a table of its own by the same: those of `OldCall` are the
+//! calls of the pool before Vista.
 //!
 //! ```text
 //! read_call_line(b"c1 submit 1")      // Ok(((Who::Client(1), Call::SubmitWork { object: ObjectId(1) }), 11))
@@ -26,9 +27,9 @@ pub mod calls;
 pub mod entries;
 pub mod facts;
 mod line;
-mod parts;
+pub mod parts;
 pub mod print;
 mod put;
 pub mod reserved;
-mod rows;
-mod words;
+pub mod rows;
+pub mod words;

@@ -2,11 +2,12 @@
 
 ghost use Rattle.std.specs.Prelude.{◌≡◌, ◌<◌, ◌≤◌, ◌++◌, ◌∷◌, [], List, length, take};
 ghost use Rattle.line_grammar.specs.Language.{IsRead};
+ghost use Rattle.line_grammar.specs.Numbers.{Numbers};
 ghost use Rattle.tp_lines.specs.declared.parts.Part.{Part};
 ghost use Rattle.tp_lines.specs.declared.words.Word.{Word};
-ghost use Rattle.tp_lines.specs.Choices.{BodyTexts, ChoiceTexts, DueTexts, KernelTexts, Met, NamedTexts, PartTexts, default_word};
+ghost use Rattle.tp_lines.specs.Choices.{BodyTexts, ChoiceTexts, DueTexts, KernelTexts, Met, MillisTexts, NamedTexts, PartTexts, default_word};
 ghost use Rattle.tp_lines.specs.Parts.{after, form_of, most_of, number_part};
-ghost use Rattle.tp_lines.specs.Values.{action_of, due_of, flag_of, how_of, kind_of, large_of, length_of, lock_of, named_of, owner_of, part_at, persistent_of, priority_of, reset_of, signal_of, slot_of, small_of, word_of};
+ghost use Rattle.tp_lines.specs.Values.{action_of, due_of, flag_of, how_of, kind_of, large_of, length_of, lock_of, millis_of, named_of, once_of, owner_of, part_at, persistent_of, priority_of, reset_of, signal_of, slot_of, small_of, span_of, word_of};
 
 use crate::words::{Field, WORDS, Word, fields_of, find_word, stands_in, word_text};
 use line_grammar::numbers::{read_number, read_prefixed, read_signed};
@@ -28,6 +29,7 @@ pub enum Part {
     Time(u64),
     Due(Option<i64>),
     Named(Option<KernelId>),
+    Millis(Option<u32>),
     Routine(u32),
     Context(u64),
     Cleanup(u64),
@@ -49,11 +51,15 @@ pub enum Form {
     Due,
     /// `none`, or the number of a kernel object.
     Named,
+    /// `none`, or a number of 32 bits.
+    Millis,
     /// One of the words of the field.
     Choice,
 }
 
 const ID_MOST: u64 = 65_535;
+
+const SMALL_MOST: u64 = 4_294_967_295;
 
 impl Part {
     /// The number of 32 bits, or 0 where this is none.
@@ -104,6 +110,16 @@ impl Part {
     {
         match self {
             Part::Named(kernel) => kernel,
+            _ => None,
+        }
+    }
+
+    /// The milliseconds, or none where this doesn't say.
+    pub fn millis(self) -> Option<u32>
+        ensures { result ≡ millis_of self }
+    {
+        match self {
+            Part::Millis(millis) => millis,
             _ => None,
         }
     }
@@ -237,6 +253,26 @@ impl Part {
             _ => ActionKind::Section,
         }
     }
+
+    /// Whether a work item may run long, or false where this doesn't say.
+    pub fn span(self) -> bool
+        ensures { result ≡ span_of self }
+    {
+        match self {
+            Part::Word(Word::Span(long)) => long,
+            _ => false,
+        }
+    }
+
+    /// Whether a registration is for once, or false where this doesn't say.
+    pub fn once(self) -> bool
+        ensures { result ≡ once_of self }
+    {
+        match self {
+            Part::Word(Word::Times(once)) => once,
+            _ => false,
+        }
+    }
 }
 
 /// The parts of a row, the first of them its word.
@@ -294,11 +330,12 @@ pub fn form_of(field: Field) -> Form
         Field::Made => number(1, ID_MOST),
         Field::Level => number(0, 2_147_483_647),
         Field::Units => number(1, 2_147_483_647),
-        Field::Small => number(0, 4_294_967_295),
+        Field::Small => number(0, SMALL_MOST),
         Field::Large => number(0, u64::MAX),
         Field::Time => number(0, 9_223_372_036_854_775_807),
         Field::Due => Form::Due,
         Field::Named => Form::Named,
+        Field::Millis => Form::Millis,
         Field::Routine => lettered(b'r', 1, ID_MOST),
         Field::Context => lettered(b'x', 0, u64::MAX),
         Field::Cleanup => lettered(b'y', 0, u64::MAX),
@@ -420,6 +457,9 @@ fn default_word(field: Field) -> Word
         Field::Flag => Word::YesNo(false),
         Field::Slot => Word::Slot(SlotWord::Unasked),
         Field::Action => Word::Action(ActionKind::Event),
+        Field::OldCall => Word::CreateQueue,
+        Field::Span => Word::Span(false),
+        Field::Times => Word::Times(false),
         _ => Word::Take,
     }
 }
@@ -462,6 +502,22 @@ fn read_named(text: &[u8]) -> Result<(Option<KernelId>, usize), usize>
     further(something(read_kernel(text)), none)
 }
 
+fn read_small(text: &[u8]) -> Result<(u32, usize), usize>
+    ensures { IsRead (Numbers 0 4294967295) text.now result }
+{
+    match read_number(text, 0, SMALL_MOST) {
+        Ok((number, size)) => Ok((number as u32, size)),
+        Err(place) => Err(place),
+    }
+}
+
+fn read_millis(text: &[u8]) -> Result<(Option<u32>, usize), usize>
+    ensures { IsRead MillisTexts text.now result }
+{
+    let none = read_bytes(None, b"none", text);
+    further(something(read_small(text)), none)
+}
+
 // Reads what stands in a field.
 fn read_body(field: Field, text: &[u8]) -> Result<(Part, usize), usize>
     ensures { IsRead (BodyTexts field) text.now result }
@@ -485,6 +541,10 @@ fn read_body(field: Field, text: &[u8]) -> Result<(Part, usize), usize>
         },
         Form::Named => match read_named(text) {
             Ok((kernel, size)) => Ok((Part::Named(kernel), size)),
+            Err(place) => Err(place),
+        },
+        Form::Millis => match read_millis(text) {
+            Ok((millis, size)) => Ok((Part::Millis(millis), size)),
             Err(place) => Err(place),
         },
         Form::Choice => match read_choice(field, text) {

@@ -27,6 +27,8 @@ pub enum Field {
     Due,
     /// The number of a kernel object, from 0 to 65,535, or `none`.
     Named,
+    /// A number of milliseconds, of 32 bits, or `none`.
+    Millis,
     /// `r` and the number of a routine, from 1 to 65,535.
     Routine,
     /// `x` and a number of 64 bits.
@@ -76,6 +78,12 @@ pub enum Field {
     Slot,
     /// A kind of action on return.
     Action,
+    /// The word of a call of the pool before Vista, and its fields.
+    OldCall,
+    /// Whether a work item may run long: `long` or `short`.
+    Span,
+    /// Whether a registration is for `once`, or is to `repeat`.
+    Times,
 }
 
 /// A word of a line.
@@ -190,6 +198,16 @@ pub enum Word {
     YesNo(bool),
     Slot(SlotWord),
     Action(ActionKind),
+    QueueItem,
+    Register,
+    Unregister,
+    CreateQueue,
+    CreateTimer,
+    ChangeTimer,
+    DeleteTimer,
+    DeleteQueue,
+    Span(bool),
+    Times(bool),
 }
 
 // All words by the field in which each stands: the word, its text, and the fields behind it. Calls stand in their
@@ -363,6 +381,24 @@ macro_rules! words {
                 (Word::Action(ActionKind::Semaphore)) b"semaphore" [];
                 (Word::Action(ActionKind::Event)) b"event" [];
             }
+            OldCall {
+                (Word::QueueItem) b"queue-item" [Routine Context Span];
+                (Word::Register) b"register" [Short Routine Context Millis Times];
+                (Word::Unregister) b"unregister" [Short];
+                (Word::CreateQueue) b"create-queue" [];
+                (Word::CreateTimer) b"create-timer" [Short Routine Context Small Small];
+                (Word::ChangeTimer) b"change-timer" [Short Short Small Small];
+                (Word::DeleteTimer) b"delete-timer" [Short Short];
+                (Word::DeleteQueue) b"delete-queue" [Short];
+            }
+            Span {
+                (Word::Span(true)) b"long" [];
+                (Word::Span(false)) b"short" [];
+            }
+            Times {
+                (Word::Times(true)) b"once" [];
+                (Word::Times(false)) b"repeat" [];
+            }
         }
     };
 }
@@ -391,7 +427,7 @@ macro_rules! all_words {
 }
 
 /// All words.
-pub static WORDS: [Word; 129] = words!(all_words, ());
+pub static WORDS: [Word; 141] = words!(all_words, ());
 
 // What is known of a word.
 struct Known {

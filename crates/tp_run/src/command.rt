@@ -26,6 +26,10 @@ pub enum Command {
     Libraries {
         machine: MachineSize,
     },
+    /// Plays a trace of calls of the pool before Vista on a machine of this size, and writes what each comes to.
+    Legacy {
+        machine: MachineSize,
+    },
     /// Reads a history, and writes whether it is legal.
     Check,
     /// Reads a history, and writes it in format 2 if it is legal, or else what `Check` writes.
@@ -103,6 +107,7 @@ impl Command {
             Command::Trace { .. }
             | Command::History { .. }
             | Command::Libraries { .. }
+            | Command::Legacy { .. }
             | Command::Check
             | Command::Migrate
             | Command::Port
@@ -118,6 +123,7 @@ pub enum Name {
     Trace,
     History,
     Libraries,
+    Legacy,
     Check,
     Migrate,
     Port,
@@ -159,6 +165,7 @@ fn command_said(texts: &Texts) -> Option<Command>
         Name::Trace => without_number(texts.number, Command::Trace { machine }),
         Name::History => without_number(texts.number, Command::History { machine }),
         Name::Libraries => without_number(texts.number, Command::Libraries { machine }),
+        Name::Legacy => without_number(texts.number, Command::Legacy { machine }),
         Name::Check => without_number(texts.number, Command::Check),
         Name::Migrate => without_number(texts.number, Command::Migrate),
         Name::Port => without_number(texts.number, Command::Port),
@@ -196,6 +203,8 @@ fn name_in(word: &str) -> Option<Name>
         Name::History
     } else if word == "libraries" {
         Name::Libraries
+    } else if word == "legacy" {
+        Name::Legacy
     } else if word == "check" {
         Name::Check
     } else if word == "migrate" {

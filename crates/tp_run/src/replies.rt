@@ -19,6 +19,7 @@ use script_generator::{generate, generated_is_script};
 use std::alloc::{AllocError, Global};
 use std::sync::Wait;
 use std::thread::Threads;
+use tp_legacy::play_legacy;
 use tp_library::play_libraries;
 use tp_port::PortGate;
 use tp_report::{MachineSize, Verdict, check, history, migrate, print_verdict, trace};
@@ -76,6 +77,13 @@ pub fn reply<B: Recorded, G: Gate>(
         }
         Command::Libraries { machine } => {
             let text = play_libraries::<B>(alloc, machine.workers, machine.events, bytes)?;
+            Ok(Output {
+                text,
+                ending: Ending::Fine,
+            })
+        }
+        Command::Legacy { machine } => {
+            let text = play_legacy::<B>(alloc, machine.workers, machine.events, bytes)?;
             Ok(Output {
                 text,
                 ending: Ending::Fine,

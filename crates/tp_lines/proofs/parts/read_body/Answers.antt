@@ -3,9 +3,9 @@ use Rattle.line_grammar.specs.Language.{IsReadTo}
 use Rattle.line_grammar.specs.Numbers.{Numbers}
 use Rattle.line_grammar.specs.Parts.{Led}
 use Rattle.tp_lines.specs.declared.parts.Part.TheVariants as part
-use Rattle.tp_lines.specs.Choices.{BodyTexts, ChoiceTexts, DueTexts, NamedTexts}
+use Rattle.tp_lines.specs.Choices.{BodyTexts, ChoiceTexts, DueTexts, MillisTexts, NamedTexts}
 use Rattle.tp_lines.specs.Parts.{number_part}
-use Rattle.tp_lines.proofs.PartFacts.{body_read, body_stuck, plain_spelled, lettered_spelled, due_spelled, named_spelled, word_spelled}
+use Rattle.tp_lines.proofs.PartFacts.{body_read, body_stuck, plain_spelled, lettered_spelled, due_spelled, millis_spelled, named_spelled, word_spelled}
 use Rattle.tp_lines.proofs.parts.read_body.Goals as goal
 
 pub returns-in-Ok : goal.returns-in-Ok
@@ -53,6 +53,16 @@ pub returns-in-Err-read_named : goal.returns-in-Err-read_named
 returns-in-Err-read_named c =
     let f = c.args.field in
     body_stuck f NamedTexts (λ kernel. part.Named kernel) (named_spelled f (sym c.form_of.ensures ∙ c.in-Named.is)) c.args.text.now c.in-Err-read_named.place c.in-Err-read_named.ensures
+
+pub returns-in-Ok-read_millis : goal.returns-in-Ok-read_millis
+returns-in-Ok-read_millis c =
+    let f = c.args.field in
+    body_read f MillisTexts (λ millis. part.Millis millis) (millis_spelled f (sym c.form_of.ensures ∙ c.in-Millis.is)) c.args.text.now c.in-Ok-read_millis.millis c.in-Ok-read_millis.size c.in-Ok-read_millis.ensures
+
+pub returns-in-Err-read_millis : goal.returns-in-Err-read_millis
+returns-in-Err-read_millis c =
+    let f = c.args.field in
+    body_stuck f MillisTexts (λ millis. part.Millis millis) (millis_spelled f (sym c.form_of.ensures ∙ c.in-Millis.is)) c.args.text.now c.in-Err-read_millis.place c.in-Err-read_millis.ensures
 
 pub returns-in-Err-read_choice : goal.returns-in-Err-read_choice
 returns-in-Err-read_choice c =

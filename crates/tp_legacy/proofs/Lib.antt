@@ -1,0 +1,10 @@
+pub mod Examples
+pub mod Growing
+pub mod LineExamples
+pub mod LineFacts
+pub mod LinePart
+pub mod OldRows
+pub mod Pricing
+pub mod Printing
+pub mod RowFacts
+pub mod Whole
