@@ -1,12 +1,12 @@
 # Lists the calls of docs/MACHINE.md, kind by kind: the words of each line and what it stands for in
 # Windows. With `asked`, prints the entries of that name whole: of the words of a line, of their first one,
-# or of a Win32 function. Where there is none, prints what is said of it among what is not built or left out, and what
+# or of a Win32 function. Where there is none, prints what is said of it among what is left out, and what
 # docs/FORMATS.md, the second file, says of it as an operation or a declaration of scripts. It ends with 1 where there
 # is nothing.
 
 FILENAME == ARGV[2] { if (asked != "" && !found) take_line_of_scripts(); next }
 /^##? / { kind = substr($0, 4); inside = 0 }
-/^- / && kind ~ /^(Not built yet|Left out)$/ { take_line_of_others() }
+/^- / && kind == "Left out" { take_line_of_others() }
 
 is_entry($0) {
     inside = asked != "" && (is_words(asked) || is_named(asked) || asked ~ /[a-z][AW]$/ && is_named(substr(asked, 1, length(asked) - 1)))
@@ -36,7 +36,7 @@ function list() {
 
 # --- What is no call
 
-# A line on what is not built or left out. In a name `*` stands for any letters.
+# A line on what is left out. In a name `*` stands for any letters.
 function take_line_of_others(    token, at, pattern) {
     for (at = split($0, token, "`") - 1; at > 0; at -= 2) {
         pattern = tolower(token[at])

@@ -63,6 +63,8 @@ function choices_of(call, at) {
     if (call == "create-lock") return at == 3 ? "mutex section" : at == 4 ? "free owned" : ""
     if (call == "release-lock" && at == 3) return "mutex section"
     if (call == "on-return" && at == 3) return "section mutex semaphore event"
+    if (call == "queue-item" && at == 5) return "short long"
+    if (call == "register") return at == 6 ? "none" : at == 7 ? "once repeat" : ""
     if (call ~ /^set-(timer|timer-ex|wait)$/ && at == 4 || call == "set-wait" && at == 5) return "none"
     return ""
 }

@@ -3,6 +3,7 @@
 # - a table that begins with `| Call | Prints |`: its rows are one trace, with the answers;
 # - a table that begins with `| Line | Comes to |`: its rows are one trace with libraries, and what each line comes to, the
 #   lines of that with `; ` between them;
+# - a table that begins with `| Old or new call | Prints |`: its rows are one trace with old calls, and the answers;
 # - a table that begins with `| Line | Column |`: each row is a bad line of a trace by itself;
 # - a block marked `console`: commands behind `$ `, each with what a terminal shows of it, standard
 #   output and standard error;
@@ -43,6 +44,13 @@ plays_libraries() {
     local rows=$2
     input=$(cut -f 1 <<<"$rows")$'\n'
     try "$1" 0 "$(cut -f 2 <<<"$rows" | sed 's/; /\n/g')"$'\n' '' "$program" libraries
+}
+
+# The same with old calls.
+plays_legacy() {
+    local rows=$2
+    input=$(cut -f 1 <<<"$rows")$'\n'
+    try "$1" 0 "$(cut -f 2 <<<"$rows")"$'\n' '' "$program" legacy
 }
 
 # The rows of each table of a page whose header begins so, cells 1 and 2 without their quotes, with a
@@ -143,6 +151,7 @@ tables_are() {
 try 'the tables of the README are its examples' 0 '' '' tables_are README.md '| Call | Prints |' shutdown.trace pools.trace
 try 'the tables of docs/MACHINE.md are its examples' 0 '' '' tables_are docs/MACHINE.md '| Call | Prints |' kind-work.trace kind-timer.trace kind-wait.trace kind-io.trace kind-pool.trace kind-group.trace kind-callback.trace kind-kernel.trace kind-actors.trace kind-environment.trace
 try 'the table of libraries is its example' 0 '' '' tables_are docs/MACHINE.md '| Line | Comes to |' plugin.libraries
+try 'the table of old calls is its example' 0 '' '' tables_are docs/MACHINE.md '| Old or new call | Prints |' watchdog.legacy
 try 'the tables of docs/GUIDE.md are its examples' 0 '' '' tables_are docs/GUIDE.md '| Call | Prints |' guide-quiet.trace guide-disassociated.trace guide-late-submit.trace guide-half-mended.trace guide-mended.trace
 
 # The script of the README is that of its example, without the comments.
@@ -162,6 +171,7 @@ for file in "$here"/README.md "$here/docs"/*.md "$here/windows/README.md" "$here
     page=${file#"$here"/}
     each_part plays "$page, table" < <(tables_of "$file" '| Call | Prints |')
     each_part plays_libraries "$page, libraries" < <(tables_of "$file" '| Line | Comes to |')
+    each_part plays_legacy "$page, old calls" < <(tables_of "$file" '| Old or new call | Prints |')
     each_part bad_lines "$page, bad lines" < <(tables_of "$file" '| Line | Column |')
     each_part session "$page, console" < <(blocks_of "$file" console)
     each_part is_legal "$page, history" < <(blocks_of "$file" history)

@@ -1,7 +1,7 @@
-# The lines of calls and of answers, from the file entry_lines, which is read first: `call`, `library` for a call that only
-# a trace with libraries may have, or `answer`, and the words behind an actor or an arrow. A word is what may stand there, with `|` between each two, or a name for that (`choices`).
-# What may stand there is a text, a number, or a text in front of a number. A number has a name in capitals, and is one
-# from `least` to `most`.
+# The lines of calls and of answers, from the file entry_lines, which is read first: `call`, `library` or `legacy` for a call
+# that only a trace with libraries or with old calls may have, or `answer`, and the words behind an actor or an arrow. A word
+# is what may stand there, with `|` between each two, or a name for that (`choices`). What may stand there is a text, a
+# number, or a text in front of a number. A number has a name in capitals, and is one from `least` to `most`.
 
 BEGIN {
     choices["WHO"] = "cCLIENT|wWORKER"
@@ -18,12 +18,15 @@ BEGIN {
     choices["ACTION"] = "section|mutex|semaphore|event"
     choices["SLOT"] = "-|done|not-owner|over-maximum"
     choices["YES"] = "yes|no"
+    choices["SPAN"] = "short|long"
+    choices["TIMEOUT"] = "none|MILLIS"
+    choices["TIMES"] = "once|repeat"
     most["CLIENT"] = "16"
     most["WORKER"] = "64"
     most["POOL"] = most["GROUP"] = most["OBJECT"] = most["KERNEL"] = most["ROUTINE"] = most["CANCEL"] = "65535"
-    most["COUNT"] = most["NUMBER"] = "65535"
+    most["COUNT"] = most["NUMBER"] = most["REGISTRATION"] = most["QUEUE"] = most["TIMER"] = "65535"
     most["INITIAL"] = most["MAXIMUM"] = most["UNITS"] = most["PREVIOUS"] = "2147483647"
-    most["VALUE"] = most["PERIOD"] = most["WINDOW"] = most["ERROR"] = "4294967295"
+    most["VALUE"] = most["PERIOD"] = most["WINDOW"] = most["ERROR"] = most["MILLIS"] = "4294967295"
     most["TICKS"] = "9223372036854775807"
     most["PAST"] = "9223372036854775808"
     most["CONTEXT"] = most["CLEANUP"] = most["CALLBACK"] = most["FIRST"] = most["BYTES"] = "18446744073709551615"

@@ -73,6 +73,8 @@ fail_commands() {
     PIECE=16 fail_all 'a trace in pieces' 'read write' "$program" trace
     input=$(<"$here/examples/plugin.libraries")$'\n'
     fail_all 'a trace with libraries' "memory $streams" "$program" libraries
+    input=$(<"$here/examples/watchdog.legacy")$'\n'
+    fail_all 'a trace with old calls' "memory $streams" "$program" legacy
     input=$'c1 submit 01\n'
     fail_all 'a bad line' "memory $streams" "$program" trace
     input=$(<"$here/examples/shutdown.history")$'\n'

@@ -51,3 +51,26 @@ try() {
     fits "$status" "$wanted" && fits "${given_out%x}" "$out" && fits "${given_err%x}" "$err" && is_well=yes
     count "$name" "$is_well" "status $status, wanted $wanted" "${given_out%x}" "$out" "${given_err%x}" "$err"
 }
+
+# milliseconds COMMAND..: how many of them a processor is busy with it.
+milliseconds() {
+    local TIMEFORMAT='%3U %3S' user system
+    read -r user system < <({ time "$@" >"$room/played"; } 2>&1)
+    echo $((10#${user/[.,]/} + 10#${system/[.,]/}))
+}
+
+# no_longer COMMAND: whether what the traces `among` and `alone` of the room end with takes up to three times as long in the
+# one, among much, as in the other, among little, in the least of some runs each, in turn. `among` begins with what is in
+# `made`. A walk along all that there is takes fifty times as long.
+no_longer() {
+    local -A least=()
+    local pass part took
+    for pass in {1..7}; do
+        for part in among made alone; do
+            took=$(milliseconds "$1" "$part")
+            ((${least[$part]-999999} <= took)) || least[$part]=$took
+        done
+        ((pass < 3 || least[among] - least[made] > 3 * least[alone])) || return 0
+    done
+    echo "$((least[among] - least[made])) milliseconds among much, ${least[alone]} among little"
+}

@@ -27,27 +27,6 @@ make_takes() {
         }'
 }
 play_takes() { timeout 10 "$program" trace --events 131072 <"$room/$1"; }
-# How many milliseconds the program takes for a trace.
-milliseconds() {
-    local TIMEFORMAT='%3U %3S' user system
-    read -r user system < <({ time play_takes "$1" >"$room/played"; } 2>&1)
-    echo $((10#${user/[.,]/} + 10#${system/[.,]/}))
-}
-# Whether takes among much take up to three times as long as among little, in the least of some runs each, in turn, and
-# without what it takes to make all that. They take about as long; by a walk along what is pending they would take fifty
-# times as long.
-take_no_longer() {
-    local -A least=()
-    local pass part took
-    for pass in {1..7}; do
-        for part in among made alone; do
-            took=$(milliseconds "$part")
-            ((${least[$part]-999999} <= took)) || least[$part]=$took
-        done
-        ((pass < 3 || least[among] - least[made] > 3 * least[alone])) || return 0
-    done
-    echo "$((least[among] - least[made])) milliseconds among much, ${least[alone]} among little"
-}
 # How many of the calls came to a take, and how many to a look.
 came_of_takes() { play_takes among | awk '/^taken/ { taken++ } /^look at-maximum 1$/ { looks++ } END { print taken + 0, looks + 0 }'; }
 make_takes 8192 63 255 1024 65535 0 0 >"$room/made"
@@ -57,5 +36,5 @@ for many in '18000 0' '0 200000'; do
     # shellcheck disable=SC2086
     make_takes 1 1 0 0 1 $many >"$room/alone"
     try "takes and looks among all that there may be: $many" 0 "$((${many% *} + 1)) ${many#* }"$'\n' '' came_of_takes
-    try "they take no longer: $many" 0 '' '' take_no_longer
+    try "they take no longer: $many" 0 '' '' no_longer play_takes
 done
