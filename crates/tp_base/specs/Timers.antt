@@ -1,5 +1,5 @@
 -- The clock, and the timers that are set. Times are in units of 100 ns since the clock began.
-use Rattle.std.specs.Prelude.{ℕ, ◌+◌, ◌-◌, ◌*◌, ◌/◌, ℤ, pos, negsuc, Bool, false, not, ◌&&◌, ◌||◌, ◌==◌, nat_le, nat_lt, List, [], ◌∷◌, if◌then◌else◌, Option, None, Some}
+use Rattle.std.specs.Prelude.{ℕ, ◌+◌, ◌-◌, ◌*◌, ◌/◌, ℤ, pos, negsuc, Bool, false, not, ◌&&◌, ◌||◌, ◌==◌, min, nat_le, nat_lt, List, [], ◌∷◌, if◌then◌else◌, Option, None, Some}
 use Rattle.std.specs.List.{filter}
 use Rattle.tp_base.specs.declared.ids.ObjectId.{ObjectId}
 use Rattle.tp_base.specs.declared.rows.TimerSetting.{TimerSetting}
@@ -68,3 +68,19 @@ set_all_again now (s ∷ ss) settings = set_all_again now ss (set_again now s se
 
 abbrev pub after_expiry : ℕ → List TimerSetting → List TimerSetting
 after_expiry now settings = set_all_again now (expired now settings) (filter (λ (s : TimerSetting). not (is_due now s)) settings)
+
+-- ---- windows
+
+-- the last moment to which an expiration may be put off: as much later as the window says, in milliseconds, and no later than
+-- the clock's end. One that is due behind that never comes. A timeout of an armed wait is a setting of which the window is 0
+abbrev pub deadline : TimerSetting → ℕ
+deadline s = if nat_lt clock_end s.due then s.due else min (s.due + units_per_millisecond * s.window) clock_end
+
+-- the least of the deadlines, and None where nothing with a time is set
+abbrev pub lesser : ℕ → Option ℕ → ℕ
+lesser moment None = moment
+lesser moment (Some other) = min moment other
+
+abbrev pub next_deadline : List TimerSetting → Option ℕ
+next_deadline [] = None
+next_deadline (s ∷ settings) = Some (lesser (deadline s) (next_deadline settings))
