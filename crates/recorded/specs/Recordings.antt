@@ -8,6 +8,7 @@ use Rattle.tp_base.specs.declared.ids.ObjectId.{ObjectId}
 use Rattle.tp_base.specs.declared.ids.Who.{Who}
 use Rattle.tp_base.specs.declared.limits.Limits.{Limits}
 use Rattle.tp_base.specs.declared.rows.Status.{Status}
+use Rattle.tp_base.specs.Timers.{next_deadline}
 use Rattle.tp_model.specs.History.{after, play_from, room}
 use Rattle.tp_model.specs.Over.{is_over, left_after}
 use Rattle.tp_model.specs.Step.{outcome_of}
@@ -35,6 +36,13 @@ is_over_behind r = is_over (world_behind r) (room_of r)
 -- of the callbacks that may still run behind the history the least one above a number
 abbrev pub left_behind : Recording → ℕ → Option (ℕ × ObjectId × Status)
 left_behind r number = left_after (world_behind r) number
+
+-- the clock behind the history, and the least deadline of what is set there with a time
+abbrev pub now_behind : Recording → ℕ
+now_behind r = (world_behind r).now
+
+abbrev pub next_deadline_behind : Recording → Option ℕ
+next_deadline_behind r = next_deadline (world_behind r).settings
 
 -- the machine's outcome of a call behind the history
 abbrev pub outcome_behind : Recording → Who → Call → Outcome

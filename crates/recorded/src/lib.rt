@@ -29,7 +29,7 @@ ghost use Rattle.tp_model.specs.Laws.{KeepsLaws};
 ghost use Rattle.tp_model.specs.Over.{row_of};
 ghost use Rattle.recorded.specs.declared.OpenFault.TheVariants.{NoMemory, TooSmall};
 ghost use Rattle.recorded.specs.ProgramLimits.{program_limits};
-ghost use Rattle.recorded.specs.Recordings.{all_made, entries_of, is_over_behind, left_behind, outcome_behind, outcomes_behind, recorded, room_of, IsFirstOf, Recording};
+ghost use Rattle.recorded.specs.Recordings.{all_made, entries_of, is_over_behind, left_behind, next_deadline_behind, now_behind, outcome_behind, outcomes_behind, recorded, room_of, IsFirstOf, Recording};
 
 use std::alloc::{AllocError, Global};
 use tp_base::answers::{Look, Outcome};
@@ -158,6 +158,16 @@ pub trait Recorded: Drop {
     /// How many entries the history has room for in all.
     fn capacity(&self) -> u32
         ensures { result ≡ (recording self.now).capacity };
+
+    /// The machine's clock, in units of 100 ns.
+    fn now(&self) -> u64
+        ensures { result ≡ now_behind (recording self.now) };
+
+    /// The least moment to which an expiration may be put off of the timers that are set and the waits that
+    /// are armed with a timeout, if there are any: for a timer as much behind its due time as its window
+    /// says, and for a timeout when it is over. It takes no memory.
+    fn next_deadline(&self) -> Option<u64>
+        ensures { result ≡ next_deadline_behind (recording self.now) };
 }
 
 /// Calls that are made one after another behind a legal history are played: the history goes on with the
