@@ -1,5 +1,5 @@
 -- A sleep: the clock goes on to a target by few wake-ups, each but the last at the least deadline of what is set with a time.
-use Rattle.std.specs.Prelude.{◌≡◌, ℕ, zero, suc, ◌+◌, ◌-◌, Bool, true, false, not, ◌&&◌, max, min, nat_le, nat_lt, List, [], ◌∷◌, length, if◌then◌else◌, Option, None, Some}
+use Rattle.std.specs.Prelude.{ℕ, zero, suc, ◌+◌, ◌-◌, Bool, true, false, not, ◌&&◌, max, min, nat_le, nat_lt, List, [], ◌∷◌, length, if◌then◌else◌, Option, None, Some}
 use Rattle.tp_base.specs.declared.answers.Answer.TheVariants.{Advanced}
 use Rattle.tp_base.specs.declared.answers.Outcome.{Outcome}
 use Rattle.tp_base.specs.declared.answers.Outcome.TheVariants as outcome

@@ -1,6 +1,6 @@
 //! Wake-ups.
 
-ghost use Rattle.std.specs.Prelude.{◌≡◌, ◌+◌, ◌-◌, ◌<◌, ◌≤◌, ◌^◌, IfErr, IfOk, [], ◌∷◌, ◌++◌};
+ghost use Rattle.std.specs.Prelude.{◌≡◌, ◌+◌, ◌-◌, ◌<◌, ◌≤◌, ◌^◌, not, ◌&&◌, nat_le, nat_lt, IfErr, IfOk, OnOk, [], ◌∷◌, ◌++◌};
 ghost use Rattle.tp_base.specs.Timers.{clock_end};
 ghost use Rattle.tp_base.specs.declared.answers.Outcome.{Outcome as Told};
 ghost use Rattle.tp_coalesce.specs.Heard.{heard, IsSlept};
@@ -116,7 +116,7 @@ fn sleep_to<B: Recorded, L: Listener>(
         let deadline = book.next_deadline();
         let on_way = is_on_way(deadline, target);
         let now = book.now();
-        if !on_way && target <= now && wakes > 0 {
+        if is_there(on_way, target, now, wakes) {
             return Ok(Slept::Done { now, wakes });
         }
         let ticks = goal_of(deadline, target).saturating_sub(now);
@@ -180,6 +180,13 @@ fn is_on_way(deadline: Option<u64>, target: u64) -> bool
         Some(deadline) => deadline <= target,
         None => false,
     }
+}
+
+// Whether nothing more is to be done: no deadline is on the way, and the clock is at the target, by a wake-up at least.
+fn is_there(on_way: bool, target: u64, now: u64, wakes: u32) -> bool
+    ensures { result ≡ (not on_way && (nat_le target now && nat_lt 0 wakes)) }
+{
+    !on_way && target <= now && wakes > 0
 }
 
 // Where the clock goes on to.

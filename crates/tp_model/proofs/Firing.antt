@@ -75,19 +75,19 @@ row_of_made P objects object all made = all_get P objects (object.0 - 1) (object
 
 -- ---- settings, by what each of them has
 
-module _ (Q : TimerSetting → Type 0) (later : (s : TimerSetting) (due : ℕ) → Q s → Q (record s { due = due })) where
-  pub all_with : (s : TimerSetting) (settings : List TimerSetting) → Q s → AllByRecursion Q settings → AllByRecursion Q (with_setting s settings)
-  all_with s [] here all = (here, tt)
-  all_with s (t ∷ ts) here all =
-      elim (expires_before s t) as (λ b. AllByRecursion Q (cond b (s ∷ t ∷ ts) (t ∷ with_setting s ts))) [
-        | true ↦ (here, all)
-        | false ↦ (all.0, all_with s ts here all.1)
-      ]
+pub all_with : (Q : TimerSetting → Type 0) (s : TimerSetting) (settings : List TimerSetting) → Q s → AllByRecursion Q settings → AllByRecursion Q (with_setting s settings)
+all_with Q s [] here all = (here, tt)
+all_with Q s (t ∷ ts) here all =
+    elim (expires_before s t) as (λ b. AllByRecursion Q (cond b (s ∷ t ∷ ts) (t ∷ with_setting s ts))) [
+      | true ↦ (here, all)
+      | false ↦ (all.0, all_with Q s ts here all.1)
+    ]
 
+module _ (Q : TimerSetting → Type 0) (later : (s : TimerSetting) (due : ℕ) → Q s → Q (record s { due = due })) where
   pub all_again : (now : ℕ) (s : TimerSetting) (settings : List TimerSetting) → Q s → AllByRecursion Q settings → AllByRecursion Q (set_again now s settings)
   all_again now s settings here all =
       let anew : TimerSetting = record s { due = next_due s.due s.period now } in
-      elim (s.period == 0) as (λ b. AllByRecursion Q (cond b settings (with_setting anew settings))) [ true ↦ all | false ↦ all_with anew settings (later s (next_due s.due s.period now) here) all ]
+      elim (s.period == 0) as (λ b. AllByRecursion Q (cond b settings (with_setting anew settings))) [ true ↦ all | false ↦ all_with Q anew settings (later s (next_due s.due s.period now) here) all ]
 
   all_anew : (now : ℕ) (ss settings : List TimerSetting) → AllByRecursion Q ss → AllByRecursion Q settings → AllByRecursion Q (set_all_again now ss settings)
   all_anew now [] settings here all = all
@@ -106,7 +106,7 @@ module _ (Q : TimerSetting → Type 0) (later : (s : TimerSetting) (due : ℕ) �
       let rest : AllByRecursion Q (without_setting object settings) = all_filter Q (λ (t : TimerSetting). not (t.object.0 == object.0)) settings all in
       elim (is_due now s) as (λ b. AllByRecursion Q (cond b (set_again now s (without_setting object settings)) (with_setting s (without_setting object settings)))) [
         | true ↦ all_again now s (without_setting object settings) (here s.due) rest
-        | false ↦ all_with s (without_setting object settings) (here s.due) rest
+        | false ↦ all_with Q s (without_setting object settings) (here s.due) rest
       ]
 
 abbrev pub AreOf : (ℕ → Type 0) → List TimerSetting → Type 0

@@ -2,7 +2,9 @@ pub mod Acting
 mod ActionExamples
 pub mod Actions
 pub mod Actors
+pub mod Advanced
 pub mod Agreeing
+pub mod Ahead
 pub mod Allowed
 pub mod Armed
 pub mod Arming

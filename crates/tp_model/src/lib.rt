@@ -12,7 +12,8 @@
 
 #![tactic(auto)]
 
-ghost use Rattle.std.specs.Prelude.{Bool, ◌≡◌, ℕ, ◌+◌, ◌≤◌, true, List, ◌++◌, length};
+ghost use Rattle.std.specs.Prelude.{Bool, ◌≡◌, ℕ, ◌+◌, ◌<◌, ◌≤◌, true, List, ◌++◌, length};
+ghost use Rattle.std.specs.List.{All};
 ghost use Rattle.tp_base.specs.declared.answers.Entry.{Entry};
 ghost use Rattle.tp_base.specs.declared.ids.Who.{Who};
 ghost use Rattle.tp_base.specs.declared.limits.Limits.{Limits};
@@ -91,4 +92,11 @@ pub fn legal_gives_facts()
 #[tactic(auto, using(crate::proofs::Stalling::stays_stalled))]
 pub fn legal_tells_stalls()
     ensures { (limits : Limits) (capacity : ℕ) (history more : List Entry) → IsLegal limits capacity (history ++ more) → StaysStalled limits capacity history more }
+{}
+
+/// Whatever is set behind a legal history, a timer or the timeout of an armed wait, is due later than
+/// the clock: what was due has expired. It does nothing: who calls it knows this.
+#[tactic(auto, using(crate::proofs::Ahead::lies_ahead))]
+pub fn legal_lies_ahead()
+    ensures { (limits : Limits) (capacity : ℕ) (history : List Entry) → IsLegal limits capacity history → All (λ s. (after limits history).now < s.due) (after limits history).settings }
 {}
