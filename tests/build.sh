@@ -165,7 +165,7 @@ chmod -R u+w "$copy"
 older=$'~tpool: the sources or the proofs have changed since they were proved, * ./tpool prove proves and builds them\n'
 is_current() { try "$1" 0 '~*; the program is proved and built'$'\n' '' without_rt "$2/tpool" --version; }
 is_older() { try "$1" 0 '~*; the program is older than its sources'$'\n' '' without_rt "$2/tpool" --version; }
-echo '// A change.' >>"$copy/crates/callback_env/src/lib.rt"
+echo '// A change.' >>"$copy/crates/shutdown_by_threads/src/main.rt"
 is_current 'a crate that the program lacks changed' "$copy"
 find "$copy/crates" -exec touch {} +
 is_current 'all dates are new' "$copy"

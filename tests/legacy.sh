@@ -108,13 +108,10 @@ legacy() {
 }
 returned='returned - - - - 0 0'
 
-legacy legacy-items-and-registrations 'c1 queue-item r1 x5 short -> queued 1 1' 'c1 create-event auto clear -> made 1' 'c1 register 1 r2 x0 none repeat -> registered 1' \
-    'c1 set-event 1 -> queued 2 1' 'w1 attach -> attached 0' 'w1 take -> taken 1 o0 r1 x5 plain' "w1 return -> $returned" 'w1 take -> taken 2 o1 r2 x0 object' \
-    'c1 set-event 1 -> queued 3 1' 'c1 unregister 1 -> later' 'c1 unregister 1 -> refused released'
-legacy legacy-timer-queues 'c1 create-queue -> queue 1' 'c1 create-timer 1 r1 x0 5 0 -> timer 1' 'c1 change-timer 1 1 10 0 -> changed yes' \
-    'c1 advance 99999 -> advanced 99999 0 0' 'c1 advance 1 -> advanced 100000 1 1' 'c1 change-timer 1 1 10 0 -> changed no' \
-    'c1 create-timer 2 r1 x0 5 0 -> refused no-such' 'c1 create-queue -> queue 2' 'c1 delete-timer 2 1 -> refused other-queue' \
-    'c1 delete-queue 1 -> closing 1 0 0' 'c1 create-timer 1 r1 x0 5 0 -> refused released'
+for trace in "$here/tests/old_traces"/*; do
+    mapfile -t lines <"$trace"
+    legacy "the old trace ${trace##*/}" "${lines[@]}"
+done
 
 # What was never made, what is gone, and what is of another queue, before all that the machine would say.
 event='c1 create-event auto clear -> made 1'
@@ -128,15 +125,19 @@ legacy 'what is gone' "$event" 'c1 register 1 r1 x0 none once -> registered 1' '
     'c1 change-timer 1 1 5 0 -> refused released' 'c1 change-timer 1 2 5 0 -> changed yes' 'c1 delete-queue 1 -> closing 0 0 0' 'c1 change-timer 1 2 5 0 -> refused released' \
     'c1 delete-timer 1 2 -> refused released' 'c1 delete-queue 1 -> refused released' 'c1 create-timer 1 r1 x0 5 0 -> refused released' 'c1 end -> ended' \
     'c1 delete-queue 1 -> refused released'
-legacy "another queue's timer, behind what is none and what is gone" 'c1 create-queue -> queue 1' 'c1 create-queue -> queue 2' 'c1 create-queue -> queue 3' 'c1 create-timer 1 r1 x0 5 0 -> timer 1' \
+legacy "another queue's timer, behind what is none and what is gone" 'c1 create-queue -> queue 1' 'c1 create-queue -> queue 2' 'c1 create-queue -> queue 3' \
+    'c1 create-timer 1 r1 x0 5 0 -> timer 1' \
     'c1 create-timer 2 r1 x0 5 0 -> timer 2' 'c1 change-timer 2 1 5 0 -> refused other-queue' 'c1 delete-timer 1 2 -> refused other-queue' 'c1 change-timer 2 3 5 0 -> refused no-such' \
     'c1 change-timer 4 1 5 0 -> refused no-such' 'c1 delete-timer 1 1 -> freed' 'c1 change-timer 2 1 5 0 -> refused released' 'c1 delete-queue 2 -> closing 0 0 0' 'c1 end -> ended' \
     'c1 delete-timer 1 2 -> refused released' 'c1 delete-timer 2 1 -> refused released' 'c1 delete-timer 3 2 -> refused released' 'w5 change-timer 3 1 5 0 -> refused released'
-legacy "the machine's refusals" "$event" 'w5 queue-item r1 x0 short -> refused no-such' 'w1 queue-item r1 x0 short -> refused not-running' 'w1 register 1 r1 x0 none once -> refused not-running' \
+legacy "the machine's refusals" "$event" 'w5 queue-item r1 x0 short -> refused no-such' 'w1 queue-item r1 x0 short -> refused not-running' \
+    'w1 register 1 r1 x0 none once -> refused not-running' \
     'c1 register 2 r1 x0 none once -> refused no-such' 'c1 register 0 r1 x0 none once -> refused no-such' 'w1 create-queue -> refused not-running' 'c1 create-queue -> queue 1' \
-    'w1 create-timer 1 r1 x0 5 0 -> refused not-running' 'c1 create-timer 1 r1 x0 5 0 -> timer 1' 'w1 change-timer 1 1 5 0 -> refused not-running' 'w1 delete-timer 1 1 -> refused not-running' \
+    'w1 create-timer 1 r1 x0 5 0 -> refused not-running' 'c1 create-timer 1 r1 x0 5 0 -> timer 1' 'w1 change-timer 1 1 5 0 -> refused not-running' \
+    'w1 delete-timer 1 1 -> refused not-running' \
     'w1 delete-queue 1 -> refused not-running' 'c2 acquire 1 -> ok' 'c2 create-queue -> refused in-wait' 'c2 delete-timer 1 1 -> refused in-wait' 'c2 set-event 1 -> refused in-wait' \
-    'c1 set-event 1 -> queued 0 0' 'c2 end -> ended' 'c2 finish -> ok' 'c2 queue-item r1 x0 short -> refused released' 'c2 delete-timer 1 1 -> refused released' 'c1 delete-timer 1 1 -> freed'
+    'c1 set-event 1 -> queued 0 0' 'c2 end -> ended' 'c2 finish -> ok' 'c2 queue-item r1 x0 short -> refused released' 'c2 delete-timer 1 1 -> refused released' \
+    'c1 delete-timer 1 1 -> freed'
 
 # What else a user may stumble over.
 legacy 'no milliseconds are at once' "$event" 'c1 create-queue -> queue 1' 'c1 create-timer 1 r1 x0 0 0 -> timer 1' 'c1 change-timer 1 1 5 0 -> changed no' 'w1 attach -> attached 0' \
@@ -156,32 +157,42 @@ legacy 'it is not gone, so the machine is asked' "$event" 'c1 register 1 r1 x0 n
     'c1 submit 9 -> refused no-such' 'c1 submit 9 -> refused no-such' 'c1 submit 9 -> refused no-such' 'c1 submit 9 -> refused no-such' 'c1 submit 9 -> refused no-such' \
     'c1 submit 9 -> refused no-such' 'c1 unregister 1 -> full 0 1' 'c1 unregister 2 -> refused no-such'
 options=()
-legacy 'a repeated registration on a manual event' 'c1 create-event manual clear -> made 1' 'c1 register 1 r1 x0 none repeat -> registered 1' 'c1 set-event 1 -> queued 1 1' 'w1 attach -> attached 0' \
-    'w1 take -> taken 1 o1 r1 x0 object' "w1 return -> $returned" 'w1 take -> taken 2 o1 r1 x0 object' 'c1 reset-event 1 -> ok' "w1 return -> $returned" 'w1 take -> taken 3 o1 r1 x0 object' \
+legacy 'a repeated registration on a manual event' 'c1 create-event manual clear -> made 1' 'c1 register 1 r1 x0 none repeat -> registered 1' 'c1 set-event 1 -> queued 1 1' \
+    'w1 attach -> attached 0' \
+    'w1 take -> taken 1 o1 r1 x0 object' "w1 return -> $returned" 'w1 take -> taken 2 o1 r1 x0 object' \
+    'c1 reset-event 1 -> ok' "w1 return -> $returned" 'w1 take -> taken 3 o1 r1 x0 object' \
     "w1 return -> $returned" 'w1 take -> look empty' 'c1 set-event 1 -> queued 4 1' 'c1 unregister 1 -> later' 'w1 take -> taken 4 o1 r1 x0 object' "w1 return -> $returned" 'w1 take -> look empty'
 legacy 'a registration for once' "$event" 'c1 register 1 r1 x0 none once -> registered 1' 'c1 set-event 1 -> queued 1 1' 'w1 attach -> attached 0' 'w1 take -> taken 1 o1 r1 x0 object' \
     'c1 set-event 1 -> queued 0 0' "w1 return -> $returned" 'w1 take -> look empty' 'c1 unregister 1 -> freed'
-legacy 'a repeated registration whose timeout comes' "$event" 'c1 register 1 r1 x0 5 repeat -> registered 1' 'c1 advance 50000 -> advanced 50000 1 1' 'c1 advance 50000 -> advanced 100000 0 0' \
+legacy 'a repeated registration whose timeout comes' "$event" 'c1 register 1 r1 x0 5 repeat -> registered 1' 'c1 advance 50000 -> advanced 50000 1 1' \
+    'c1 advance 50000 -> advanced 100000 0 0' \
     'w1 attach -> attached 0' 'w1 take -> taken 1 o1 r1 x0 timeout' 'c1 advance 49999 -> advanced 149999 0 0' 'c1 advance 1 -> advanced 150000 2 1' "w1 return -> $returned" \
     'w1 take -> taken 2 o1 r1 x0 timeout' 'c1 set-event 1 -> queued 3 1' 'c1 unregister 1 -> later'
-legacy 'a registration whose object is closed, with a callback that is taken later' "$event" 'c1 register 1 r1 x0 none repeat -> registered 1' 'c1 set-event 1 -> queued 1 1' 'c1 close wait 1 -> later' \
+legacy 'a registration whose object is closed, with a callback that is taken later' "$event" 'c1 register 1 r1 x0 none repeat -> registered 1' 'c1 set-event 1 -> queued 1 1' \
+    'c1 close wait 1 -> later' \
     'w1 attach -> attached 0' 'w1 take -> taken 1 o1 r1 x0 object' 'c1 set-event 1 -> queued 0 0' "w1 return -> $returned" 'c1 unregister 1 -> refused released'
-legacy 'a registration that the program sets by its object' "$event" 'c1 create-event auto clear -> made 2' 'c1 register 1 r1 x0 none repeat -> registered 1' 'c1 set-wait 1 2 none -> queued 0 0' \
+legacy 'a registration that the program sets by its object' "$event" 'c1 create-event auto clear -> made 2' 'c1 register 1 r1 x0 none repeat -> registered 1' \
+    'c1 set-wait 1 2 none -> queued 0 0' \
     'c1 set-event 2 -> queued 1 1' 'w1 attach -> attached 0' 'w1 take -> taken 1 o1 r1 x0 object' 'c1 set-event 2 -> queued 0 0' 'c1 set-event 1 -> queued 2 1'
 legacy 'a timer that the program unsets or closes by its object' 'c1 create-queue -> queue 1' 'c1 create-timer 1 r1 x0 5 5 -> timer 1' 'c1 set-timer 1 none 0 0 -> queued 0 0' \
     'c1 change-timer 1 1 5 0 -> changed no' 'c1 close timer 1 -> freed' 'c1 change-timer 1 1 5 0 -> refused released' 'c1 delete-timer 1 1 -> refused released'
-legacy 'a queue whose group the program closes' 'c1 create-queue -> queue 1' 'c1 close-group 1 -> ok' 'c1 create-timer 1 r1 x0 5 0 -> refused group-closed' 'c1 delete-queue 1 -> refused group-closed' \
+legacy 'a queue whose group the program closes' 'c1 create-queue -> queue 1' 'c1 close-group 1 -> ok' 'c1 create-timer 1 r1 x0 5 0 -> refused group-closed' \
+    'c1 delete-queue 1 -> refused group-closed' \
     'c1 create-queue -> queue 2' 'c1 create-timer 2 r1 x0 5 0 -> timer 1'
-legacy 'a timer that has expired for good' 'c1 create-queue -> queue 1' 'c1 create-timer 1 r1 x0 5 0 -> timer 1' 'c1 create-timer 1 r1 x0 5 5 -> timer 2' 'c1 advance 50000 -> advanced 50000 1 2' \
+legacy 'a timer that has expired for good' 'c1 create-queue -> queue 1' 'c1 create-timer 1 r1 x0 5 0 -> timer 1' 'c1 create-timer 1 r1 x0 5 5 -> timer 2' \
+    'c1 advance 50000 -> advanced 50000 1 2' \
     'c1 change-timer 1 1 5 5 -> changed no' 'c1 change-timer 1 2 5 0 -> changed yes' 'c1 advance 50000 -> advanced 100000 3 1' 'c1 change-timer 1 2 5 0 -> changed no'
 legacy 'a timer whose callback runs, and is deleted' 'c1 create-queue -> queue 1' 'c1 create-timer 1 r1 x0 0 5 -> timer 1' 'w1 attach -> attached 0' 'w1 take -> taken 1 o1 r1 x0 plain' \
     'w1 change-timer 1 1 7 0 -> changed yes' 'w1 delete-timer 1 1 -> later' 'c1 advance 100000 -> advanced 100000 0 0' "w1 return -> $returned"
-legacy 'a queue that is deleted by a callback of its own, and by another' 'c1 create-queue -> queue 1' 'c1 create-timer 1 r1 x0 0 0 -> timer 1' 'w1 attach -> attached 0' 'w1 take -> taken 1 o1 r1 x0 plain' \
+legacy 'a queue that is deleted by a callback of its own, and by another' 'c1 create-queue -> queue 1' 'c1 create-timer 1 r1 x0 0 0 -> timer 1' 'w1 attach -> attached 0' \
+    'w1 take -> taken 1 o1 r1 x0 plain' \
     'w1 delete-queue 1 -> refused own-callback' 'w1 create-timer 1 r1 x0 5 0 -> timer 2' 'c1 delete-queue 1 -> closing 1 0 0' 'w1 change-timer 1 2 5 0 -> refused released' \
     'c1 create-queue -> refused in-wait' 'c1 end -> look not-yet callback 1' "w1 return -> $returned" 'c1 end -> ended' 'c1 create-queue -> queue 2'
-legacy 'a queue that is deleted keeps what is pending' 'c1 create-queue -> queue 1' 'c1 create-timer 1 r1 x0 0 5 -> timer 1' 'c1 delete-queue 1 -> closing 1 0 0' 'c2 advance 1000000 -> advanced 1000000 0 0' \
+legacy 'a queue that is deleted keeps what is pending' 'c1 create-queue -> queue 1' 'c1 create-timer 1 r1 x0 0 5 -> timer 1' 'c1 delete-queue 1 -> closing 1 0 0' \
+    'c2 advance 1000000 -> advanced 1000000 0 0' \
     'w1 attach -> attached 0' 'w1 take -> taken 1 o1 r1 x0 plain' 'c1 end -> look not-yet callback 1' "w1 return -> $returned" 'c1 end -> ended'
-legacy 'items that run long' 'c1 set-minimum 0 1 -> refused default-pool' 'c1 queue-item r1 x0 long -> queued 1 1' 'c1 queue-item r2 x18446744073709551615 short -> queued 2 1' 'w1 attach -> attached 0' \
+legacy 'items that run long' 'c1 set-minimum 0 1 -> refused default-pool' 'c1 queue-item r1 x0 long -> queued 1 1' 'c1 queue-item r2 x18446744073709551615 short -> queued 2 1' \
+    'w1 attach -> attached 0' \
     'w1 take -> taken 1 o0 r1 x0 plain' 'w2 attach -> attached 0' 'w1 queue-item r3 x0 short -> queued 3 1' "w1 return -> $returned" 'w1 take -> taken 2 o0 r2 x18446744073709551615 plain'
 
 # Each call wants room for all that it may come to. The client has one place of the sixteen, for its finish.
@@ -201,22 +212,23 @@ for cost in 1 2 3; do
 done
 options=(--events 18)
 mapfile -t front < <(filled 9)
-legacy 'a take has room for what arms its registration anew' "$event" 'c1 register 1 r1 x0 none repeat -> registered 1' 'c1 set-event 1 -> queued 1 1' "${front[@]}" 'w1 attach -> attached 0' \
+legacy 'a take has room for what arms its registration anew' "$event" 'c1 register 1 r1 x0 none repeat -> registered 1' \
+    'c1 set-event 1 -> queued 1 1' "${front[@]}" 'w1 attach -> attached 0' \
     'w1 take -> full 2 3' "w1 return -> refused not-running" 'w1 take -> full 1 3'
 options=()
 input=$'w3 unregister 1\nw3 queue-item r1 x0 short\nc1 queue-item r1 x0 short\nw2 attach\n'
 try 'a machine of another size' 0 $'refused no-such\nrefused no-such\nqueued 1 1\nattached 0\n' '' "$program" --workers 2 legacy --events=20
 
-# Where the slots are taken. Those of the armed waits are given back.
+# Where the slots are taken: nothing is left of what could not be set, and a registration that can't be armed anew isn't.
 no_slot() {
     {
-        yes 'c1 queue-item r1 x0 short' | head -n 8190
-        printf '%s\n' 'c1 create-event auto clear' 'c1 create-queue' 'c1 register 1 r1 x0 none repeat' 'c1 set-event 1' 'w1 attach' 'c1 create-timer 1 r1 x0 5 0' \
-            'c1 queue-item r1 x0 short' 'c1 register 1 r1 x0 none once' 'c1 queue-item r1 x0 short' 'c1 create-timer 1 r1 x0 0 0' 'c1 change-timer 1 1 0 0' 'c1 change-timer 1 1 7 0' \
-            'c1 close timer 3' 'c1 close timer 4' 'c1 close wait 2' 'c1 close wait 3'
-    } | "$program" legacy | tail -n +8191
+        printf 'c1 %s\n' 'create-event auto clear' 'create-queue' 'register 1 r1 x0 none repeat' 'create-timer 1 r1 x0 5 0' 'set-event 1'
+        yes 'c1 queue-item r1 x0 short' | head -n 8191
+        printf '%s\n' 'w1 attach' 'c1 queue-item r1 x0 short' 'c1 register 1 r1 x0 none once' 'c1 create-timer 1 r1 x0 0 0' 'c1 change-timer 1 1 0 0' 'c1 change-timer 1 1 7 0' \
+            'c1 close wait 3' 'c1 close timer 4' 'c1 unregister 2' 'c1 delete-timer 1 2' 'w1 take' 'w1 return' 'c1 set-event 1' 'c1 unregister 1'
+    } | "$program" legacy | sed 6,8196d
 }
-try 'no callback can be under way' 0 $'made 1\nqueue 1\nregistered 1\nqueued 8191 1\nattached 0\ntimer 1\nqueued 8192 1\nrefused callback-limit\nrefused callback-limit\nrefused callback-limit\nrefused callback-limit\nchanged yes\nrefused wrong-kind\nrefused released\nrefused wrong-kind\nrefused released\n' '' no_slot
+try 'no callback can be under way' 0 $'made 1\nqueue 1\nregistered 1\ntimer 1\nqueued 1 1\nattached 0\nrefused callback-limit\nrefused callback-limit\nrefused callback-limit\nrefused callback-limit\nchanged yes\nrefused released\nrefused released\nrefused no-such\nrefused no-such\ntaken 1 o1 r1 x0 object\nreturned - - - - 0 0\nqueued 0 0\nfreed\n' '' no_slot
 
 # --- The machine's calls that lie under old ones
 # Plays the traces of `drawn` by the plain reading, into `plain`. It asks `trace` what the machine answers, until the calls
