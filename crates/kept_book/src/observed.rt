@@ -110,4 +110,12 @@ impl<B: Recorded, O: Observer> Recorded for Observed<B, O> {
     fn capacity(&self) -> u32 {
         self.book.capacity()
     }
+
+    fn now(&self) -> u64 {
+        self.book.now()
+    }
+
+    fn next_deadline(&self) -> Option<u64> {
+        self.book.next_deadline()
+    }
 }

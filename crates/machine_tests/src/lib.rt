@@ -24,4 +24,6 @@ mod reports;
 #[cfg(test)]
 mod sharing;
 #[cfg(test)]
+mod sleeping;
+#[cfg(test)]
 mod takes;

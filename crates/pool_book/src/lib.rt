@@ -125,6 +125,14 @@ impl Recorded for Book {
     fn capacity(&self) -> u32 {
         self.capacity
     }
+
+    fn now(&self) -> u64 {
+        self.engine.now()
+    }
+
+    fn next_deadline(&self) -> Option<u64> {
+        self.engine.next_deadline()
+    }
 }
 
 impl Book {

@@ -39,8 +39,9 @@
 //!
 //! `open` takes all memory; `step_into` makes a call of an actor; `owed` is the number of entries for
 //! which the history must keep room; `is_over` says whether nothing more is to be done, and
-//! `left_after` goes along the callbacks that may still run; `age` is the number of steps that were
-//! accepted. What an engine remembers is a world without the callbacks that are over (`Remembered`
+//! `left_after` goes along the callbacks that may still run; `now` is the moment of the clock, and
+//! `next_deadline` the last to which the next expirations may be put off; `age` is the number of steps
+//! that were accepted. What an engine remembers is a world without the callbacks that are over (`Remembered`
 //! of `tp_model`): where it stands for a world, its outcome is that of the machine's step there, and
 //! then it stands for the world after the step.
 //!
@@ -53,6 +54,7 @@
 ghost use Rattle.std.specs.Prelude.{◌≡◌, ◌^◌, ◌<◌, IfOk, option_map};
 ghost use Rattle.pool_core.specs.Made.{IsMade};
 ghost use Rattle.tp_base.specs.Ranges.{AreLimitsInRange, IsCallInRange};
+ghost use Rattle.tp_base.specs.Timers.{next_deadline};
 ghost use Rattle.tp_model.specs.World.{World, opening};
 ghost use Rattle.tp_model.specs.Counts.{owed};
 ghost use Rattle.tp_model.specs.Over.{is_over, left_after, row_of};
@@ -169,6 +171,21 @@ impl Engine {
         ensures { (w : World) → StandsFor self.now w → option_map row_of result ≡ left_after w number }
     {
         live_queries::left_after(&self.live, number)
+    }
+
+    /// The moment of the clock, in units of 100 ns.
+    pub fn now(&self) -> u64
+        ensures { (w : World) → StandsFor self.now w → result ≡ w.now }
+    {
+        self.live.sources().now()
+    }
+
+    /// The least of the deadlines of what is set with a time, timers and timeouts: the last moment to
+    /// which the next expirations may be put off. None where nothing is set.
+    pub fn next_deadline(&self) -> Option<u64>
+        ensures { (w : World) → StandsFor self.now w → result ≡ next_deadline w.settings }
+    {
+        self.live.sources().next_deadline()
     }
 
     /// The number of steps that were accepted since the engine was opened.

@@ -2,7 +2,7 @@
 
 ghost use Rattle.std.specs.Prelude.{◌≡◌, ◌≤◌, false, filter, length, not, slice_set, true};
 ghost use Rattle.tp_base.specs.Armings.{is_armed, is_set as is_object_set};
-ghost use Rattle.tp_base.specs.Timers.{clock_end, expired, expires_at_once as expires_at_once_by, set_timer};
+ghost use Rattle.tp_base.specs.Timers.{clock_end, expired, expires_at_once as expires_at_once_by, next_deadline, set_timer};
 ghost use Rattle.sources.specs.Rows.{is_there, with_sources, without_object};
 
 use crate::LiveSources;
@@ -91,6 +91,14 @@ impl LiveSources {
         ensures { result ≡ length (expired now self.now.sources.settings) }
     {
         self.timers.count_due(now)
+    }
+
+    /// The last moment to which the next expirations may be put off, and None where neither a timer nor a
+    /// timeout is set. Walks what is due before it.
+    pub fn next_deadline(&self) -> Option<u64>
+        ensures { result ≡ next_deadline self.now.sources.settings }
+    {
+        self.timers.next_deadline()
     }
 
     /// How many timers are due at a moment, timeouts of armed waits left out. Walks what is due.

@@ -1,5 +1,6 @@
 pub mod Behind
 pub mod Entries
+pub mod Found
 pub mod Held
 pub mod Order
 pub mod Sifting

@@ -11,7 +11,7 @@ use Rattle.timer_heap.specs.Kept.{entries_of}
 use Rattle.timer_heap.proofs.Told.{true_or_false}
 
 -- the sum over so many places from one on
-abbrev range : (ℕ → ℕ) → ℕ → ℕ → ℕ
+abbrev pub range : (ℕ → ℕ) → ℕ → ℕ → ℕ
 range f a zero = 0
 range f a (suc k) = range f a k + f (a + k)
 
@@ -32,7 +32,7 @@ range_front f (suc k) =
     let same : f (0 + suc k) ≡ f (suc (0 + k)) = ap f (omega arith) in
     omega (arith, range_front f k, same)
 
-range_same : (f g : ℕ → ℕ) (k : ℕ) → ((p : ℕ) → p < k → f p ≡ g p) → range f 0 k ≡ range g 0 k
+pub range_same : (f g : ℕ → ℕ) (k : ℕ) → ((p : ℕ) → p < k → f p ≡ g p) → range f 0 k ≡ range g 0 k
 range_same f g zero same = refl
 range_same f g (suc k) same = omega (arith, range_same f g k (λ p lt. same p (omega arith)), same (0 + k) (omega arith))
 
@@ -100,6 +100,13 @@ under_none f N none left right zero place at = refl
 under_none f N none left right (suc depth) place at =
     omega (arith, none place at, under_none f N none left right depth (2 * place + 1) (left place at), under_none f N none left right depth (2 * place + 2) (right place at))
 
+-- a key comes due no earlier than the one above it
+pub due_below : (dues held : List ℕ) → IsHeap (rank_at dues held) (length held) → ((p : ℕ) → p < length held → get_or held p 0 < 2 ^ 32) → (p q : ℕ) → parent q ≡ p → 0 < q → q < length held → get_or dues (get_or held p 0) 0 ≤ get_or dues (get_or held q 0) 0
+due_below dues held heap small p q above some within =
+    let edge = heap q some within in
+    let over = ap (rank_at dues held) above in
+    omega (arith, edge, over, small q within)
+
 pub tally_most : (b : Bool) → tally b ≤ 1
 tally_most true = omega arith
 tally_most false = omega arith
@@ -141,24 +148,20 @@ module _ (dues held : List ℕ) (t : ℕ) (passes : ℕ → Bool) where
       (cases_lt p (length held))
       in
       let later_below : (p q : ℕ) → IsLater p → parent q ≡ p → 0 < q → IsLater q
-      = λ p q at above some within.
-      let edge = heap q some within in
-      let over = ap (rank_at dues held) above in
-      let due = at (omega (arith, within, above, some)) in
-      omega (arith, edge, over, due, small q within)
+      = λ p q at above some within. omega (arith, at (omega (arith, within, above, some)), due_below dues held heap small p q above some within)
       in
       under_none (counts dues held t passes) IsLater later_at (λ p at. later_below p (2 * p + 1) at (omega arith) (omega arith)) (λ p at. later_below p (2 * p + 2) at (omega arith) (omega arith)) depth place later
 
 -- how many keys pass
-abbrev weigh : (ℕ → Bool) → List ℕ → ℕ
+abbrev pub weigh : (ℕ → Bool) → List ℕ → ℕ
 weigh h [] = 0
 weigh h (x ∷ xs) = tally (h x) + weigh h xs
 
-range_list : (h : ℕ → Bool) (xs : List ℕ) → range (λ p. tally (h (get_or xs p 0))) 0 (length xs) ≡ weigh h xs
+pub range_list : (h : ℕ → Bool) (xs : List ℕ) → range (λ p. tally (h (get_or xs p 0))) 0 (length xs) ≡ weigh h xs
 range_list h [] = refl
 range_list h (x ∷ xs) = range_front (λ p. tally (h (get_or (x ∷ xs) p 0))) (length xs) ∙ ap (λ n. tally (h x) + n) (range_list h xs)
 
-length_filter : (q : Entry → Bool) (x : Entry) (xs : List Entry) → length (filter q (x ∷ xs)) ≡ tally (q x) + length (filter q xs)
+pub length_filter : (q : Entry → Bool) (x : Entry) (xs : List Entry) → length (filter q (x ∷ xs)) ≡ tally (q x) + length (filter q xs)
 length_filter q x xs =
     ⊎_elim
     (λ (passes : q x ≡ true). rw passes (omega arith))
@@ -174,7 +177,7 @@ filter_with q e (x ∷ xs) =
     rw later (omega (arith, length_filter q x (with_entry e xs), filter_with q e xs, length_filter q x xs)))
     (true_or_false (comes_before e x))
 
-filter_entries : (q : Entry → Bool) (dues held : List ℕ) → length (filter q (entries_of dues held)) ≡ weigh (λ k. q (entry k (get_or dues k 0))) held
+pub filter_entries : (q : Entry → Bool) (dues held : List ℕ) → length (filter q (entries_of dues held)) ≡ weigh (λ k. q (entry k (get_or dues k 0))) held
 filter_entries q dues [] = refl
 filter_entries q dues (key ∷ held) = omega (arith, filter_with q (entry key (get_or dues key 0)) (entries_of dues held), filter_entries q dues held)
 

@@ -3,3 +3,4 @@ pub mod Dues
 pub mod Heap
 pub mod Held
 pub mod Kept
+pub mod Least

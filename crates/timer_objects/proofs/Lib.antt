@@ -1,3 +1,4 @@
+pub mod Deadlines
 pub mod Expiry
 pub mod Kept
 pub mod NextDue

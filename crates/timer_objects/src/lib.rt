@@ -32,12 +32,14 @@
 #![tactic(auto)]
 
 ghost use Rattle.std.specs.Prelude.{◌≡◌, ℕ, ◌+◌, ◌^◌, ◌<◌, ◌≤◌, All, Bool, IfOk, [], ◌∷◌, MatchOption, IfNone, filter, length, map, replicate, slice_set, true, false};
-ghost use Rattle.tp_base.specs.Timers.{after_expiry, clock_end, expired, expires_at_once, is_due, set_or_expire, set_timer, without_setting};
+ghost use Rattle.tp_base.specs.Timers.{after_expiry, clock_end, deadline as last_moment, expired, expires_at_once, is_due, next_deadline, set_or_expire, set_timer, without_setting};
+ghost use Rattle.timer_heap.specs.Dues.{entry};
+ghost use Rattle.timer_objects.specs.Kept.{setting_of};
 ghost use Rattle.timer_objects.specs.Settings.{HasDistinctObjects, IsInOrder, after_first, first_expired, is_set, is_there, told, TestsObjects};
 
 mod moments;
 
-pub use moments::{moment_of, next_due};
+pub use moments::{deadline, moment_of, next_due};
 use std::alloc::{AllocError, Global};
 use std::marker::Model;
 use steps::Steps;
@@ -268,6 +270,26 @@ impl TimerObjects {
             ensures { key + 1 < 2 ^ 32 → F.post test.entry.now (record { 0 = key + 1 }) result }
         { test(ObjectId(key.saturating_add(1))) };
         self.dues.count_due_where(now, &of_key)
+    }
+
+    /// The least of the deadlines of the timers that are set, and None where none is set: the last
+    /// moment to which the next expirations may be put off.
+    pub fn next_deadline(&self) -> Option<u64>
+        ensures { result ≡ next_deadline self.now.settings }
+    {
+        let paces = &self.paces;
+        let deadline_of = |key: u32, due: u64| -> u64
+            ensures { result ≡ last_moment (setting_of paces.entry.now.items (entry key due)) }
+        {
+            let Pace { period, window } = paces.get(key as usize).copied().unwrap_or(NO_PACE);
+            deadline(&TimerSetting {
+                object: ObjectId(key.saturating_add(1)),
+                due,
+                period,
+                window,
+            })
+        };
+        self.dues.least_by(&deadline_of)
     }
 
     /// Lets the first timer expire, if it is due at the moment `now`, and answers when it was due,

@@ -1,7 +1,10 @@
-//! When a timer is due.
+//! When a timer is due, and until when that may be put off.
 
 ghost use Rattle.std.specs.Prelude.{◌≡◌, ◌<◌, ◌≤◌};
-ghost use Rattle.tp_base.specs.Timers.{clock_end, moment_of as moment, next_due as next};
+ghost use Rattle.tp_base.specs.Timers.{clock_end, deadline as last_moment, moment_of as moment, next_due as next};
+
+use tp_base::calls::CLOCK_END;
+use tp_base::rows::TimerSetting;
 
 // 1 millisecond in units of 100 ns.
 const UNITS: u64 = 10_000;
@@ -32,4 +35,16 @@ pub fn next_due(base: u64, period: u32, now: u64) -> u64
 {
     let span = UNITS * u64::from(period);
     base + ((now - base) / span + 1) * span
+}
+
+/// The last moment to which an expiration may be put off: as much later as the window says, and no later
+/// than the clock's end. One that is due behind that never comes.
+pub fn deadline(setting: &TimerSetting) -> u64
+    ensures { result ≡ last_moment setting.now }
+{
+    if setting.due > CLOCK_END {
+        setting.due
+    } else {
+        CLOCK_END.min(setting.due + UNITS * u64::from(setting.window))
+    }
 }

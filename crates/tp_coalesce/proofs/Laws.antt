@@ -1,6 +1,6 @@
 -- Wake-ups are on time, and each but the last is for something.
-use Rattle.std.proofs.Common.{◌≡◌, ℕ, zero, suc, ◌+◌, ◌-◌, ◌*◌, ◌<◌, ◌≤◌, Bool, true, false, cond, not, List, [], ◌∷◌, ◌++◌, length, get_or, min, nat_le, nat_lt, Option, None, Some, refl, sym, ap, ◌∙◌, subst, arith}
-use Rattle.std.specs.Prelude.{◌&&◌, if◌then◌else◌}
+use Rattle.std.proofs.Common.{◌≡◌, ℕ, zero, suc, ◌+◌, ◌-◌, ◌*◌, ◌<◌, ◌≤◌, Bool, true, false, not, List, [], ◌∷◌, ◌++◌, get_or, min, nat_le, nat_lt, Option, None, Some, refl, sym, ap, ◌∙◌, subst, arith}
+use Rattle.std.specs.Prelude.{if◌then◌else◌}
 use Rattle.std.specs.List.{All, Contains}
 use Rattle.std.proofs.lemmas.Bool.Decides.{nat_tests}
 use Rattle.std.proofs.lemmas.List.{append-nil}
@@ -14,7 +14,6 @@ use Rattle.tp_base.specs.declared.answers.Refusal.{Refusal}
 use Rattle.tp_base.specs.declared.calls.Call.{Call}
 use Rattle.tp_base.specs.declared.calls.Call.TheVariants.{Advance}
 use Rattle.tp_base.specs.declared.ids.Who.{Who}
-use Rattle.tp_base.specs.declared.plans.Plan.{Plan}
 use Rattle.tp_base.specs.declared.plans.Plan.TheVariants.{Does}
 use Rattle.tp_base.specs.declared.plans.Change.{Change}
 use Rattle.tp_base.specs.declared.rows.TimerSetting.{TimerSetting}
@@ -33,7 +32,7 @@ use Rattle.tp_model.proofs.Entries.{Accepts, Entered, entered, next_number_in, R
 use Rattle.recorded.specs.Recordings.{all_made, made, next_deadline_behind, now_behind, outcome_behind, recorded, room_of, Recording, world_behind}
 use Rattle.recorded.proofs.Histories.{after_append, sound_behind}
 use Rattle.recorded.proofs.Playing.{all_legal}
-use Rattle.tp_coalesce.specs.Laws.{settings_behind, AreFor, AreOnTime, IsFor, IsOnTime}
+use Rattle.tp_coalesce.specs.Laws.{settings_behind, AreFor, AreOnTime, IsFor, IsLawful, IsOnTime}
 use Rattle.tp_coalesce.specs.Sleeps.{behind, done, goal_of, is_advanced, is_on_way, is_there, most_wakes, sleep, sleep_beyond, sleep_from, stopped, waking, Sleep}
 
 -- ---- where an advance leaves the clock
@@ -190,11 +189,6 @@ module _ (r : Recording) (legal : IsLegal r.limits r.capacity r.history) (who : 
 
 -- ---- sleeps
 
-pub record IsLawful (r : Recording) (s : Sleep) : Type 0 where
-  pub grows : s.after ≡ all_made r s.calls
-  pub on_time : AreOnTime r s.calls
-  pub wakes_for : AreFor r s.calls
-
 for_behind : (r : Recording) (call : Who × Call) (calls : List (Who × Call)) → IsFor r (made r call) → AreFor (made r call) calls → AreFor r (call ∷ calls)
 for_behind r call [] is later = tt
 for_behind r call (next ∷ calls) is later = (is, later)
@@ -220,13 +214,13 @@ round_lawful : (r : Recording) (legal : IsLegal r.limits r.capacity r.history) (
     if not advanced then stopped (made r (who, waking r target)) wakes (outcome_behind r who (waking r target))
     else if on then rest
     else done (made r (who, waking r target)) (wakes + 1)))
-round_lawful r legal who target wakes rest l true advanced on came way = lawful_end r (done r wakes) refl refl
-round_lawful r legal who target wakes rest l false false on came way =
+round_lawful r legal who target wakes rest l true advanced on is way = lawful_end r (done r wakes) refl refl
+round_lawful r legal who target wakes rest l false false on is way =
     lawful_last r who (waking r target) (outcome_behind r who (waking r target)) (stopped (made r (who, waking r target)) wakes (outcome_behind r who (waking r target))) refl refl (waking_on_time r legal who target)
-round_lawful r legal who target wakes rest l false true false came way =
+round_lawful r legal who target wakes rest l false true false is way =
     lawful_last r who (waking r target) (outcome_behind r who (waking r target)) (done (made r (who, waking r target)) (wakes + 1)) refl refl (waking_on_time r legal who target)
-round_lawful r legal who target wakes rest l false true true came way =
-    record { grows = l.grows; on_time = (waking_on_time r legal who target, l.on_time); wakes_for = for_behind r (who, waking r target) rest.calls (is_for r legal who target way came) l.wakes_for }
+round_lawful r legal who target wakes rest l false true true is way =
+    record { grows = l.grows; on_time = (waking_on_time r legal who target, l.on_time); wakes_for = for_behind r (who, waking r target) rest.calls (is_for r legal who target way is) l.wakes_for }
 
 from_lawful : (more : ℕ) (r : Recording) → IsLegal r.limits r.capacity r.history → (who : Who) (target wakes : ℕ) → IsLawful r (sleep_from more r who target wakes)
 from_lawful zero r legal who target wakes = lawful_end r (done r wakes) refl refl

@@ -5,7 +5,8 @@ use Rattle.tp_base.specs.declared.calls.Call.{Call}
 use Rattle.tp_base.specs.declared.ids.Who.{Who}
 use Rattle.tp_base.specs.declared.rows.TimerSetting.{TimerSetting}
 use Rattle.tp_base.specs.Timers.{deadline}
-use Rattle.recorded.specs.Recordings.{made, now_behind, Recording, world_behind}
+use Rattle.recorded.specs.Recordings.{all_made, made, now_behind, Recording, world_behind}
+use Rattle.tp_coalesce.specs.Sleeps.{Sleep}
 
 abbrev pub settings_behind : Recording → List TimerSetting
 settings_behind r = (world_behind r).settings
@@ -31,3 +32,9 @@ abbrev pub AreFor : Recording → List (Who × Call) → Type 0
 AreFor r [] = Unit {0}
 AreFor r (call ∷ []) = Unit {0}
 AreFor r (call ∷ later ∷ calls) = IsFor r (made r call) × AreFor (made r call) (later ∷ calls)
+
+pub record IsLawful (r : Recording) (s : Sleep) : Type 0 where
+  -- the history goes on by these calls alone
+  pub grows : s.after ≡ all_made r s.calls
+  pub on_time : AreOnTime r s.calls
+  pub wakes_for : AreFor r s.calls

@@ -14,4 +14,4 @@
 
 mod sleeping;
 
-pub use sleeping::{Listener, Slept, sleep, sleep_told};
+pub use sleeping::{Listener, Slept, sleep, sleep_told, sleeps_are_lawful};

@@ -1,8 +1,12 @@
 //! Wake-ups.
 
-ghost use Rattle.std.specs.Prelude.{◌≡◌, ◌+◌, ◌-◌, ◌<◌, ◌≤◌, ◌^◌, not, ◌&&◌, nat_le, nat_lt, IfErr, IfOk, OnOk, [], ◌∷◌, ◌++◌};
+ghost use Rattle.std.specs.Prelude.{◌≡◌, ℕ, ◌+◌, ◌-◌, ◌<◌, ◌≤◌, ◌^◌, not, ◌&&◌, nat_le, nat_lt, IfErr, IfOk, OnOk, [], ◌∷◌, ◌++◌};
 ghost use Rattle.tp_base.specs.Timers.{clock_end};
 ghost use Rattle.tp_base.specs.declared.answers.Outcome.{Outcome as Told};
+ghost use Rattle.recorded.specs.Recordings.{Recording};
+ghost use Rattle.tp_base.specs.declared.ids.Who.{Who as Actor};
+ghost use Rattle.tp_model.specs.History.{IsLegal};
+ghost use Rattle.tp_coalesce.specs.Laws.{IsLawful};
 ghost use Rattle.tp_coalesce.specs.Heard.{heard, IsSlept};
 ghost use Rattle.tp_coalesce.specs.Sleeps.{goal_of, is_advanced, is_on_way, most_wakes, sleep, sleep_beyond, sleep_from};
 ghost use Rattle.tp_lines.specs.Answers.{text_of_outcome};
@@ -10,12 +14,9 @@ ghost use Rattle.tp_lines.specs.Answers.{text_of_outcome};
 use recorded::Recorded;
 use std::alloc::AllocError;
 use tp_base::answers::{Answer, Outcome};
-use tp_base::calls::Call;
+use tp_base::calls::{CLOCK_END, Call};
 use tp_base::ids::Who;
 use tp_lines::print::Lines;
-
-/// The last moment of the clock.
-const CLOCK_END: u64 = 9_223_372_036_854_775_807;
 
 /// How a sleep ends.
 #[derive(Clone, Copy)]
@@ -55,12 +56,23 @@ pub fn sleep<B: Recorded>(book: &mut B, who: Who, ticks: u64) -> Slept
     requires { ticks ≤ clock_end }
     ensures slept { result ≡ (sleep (B.recording book.old) who ticks).slept }
     ensures after { B.recording book.new ≡ (sleep (B.recording book.old) who ticks).after }
+    // Its wake-ups are on time, and each but the last is for something.
+    ensures lawful { IsLegal (B.recording book.old).limits (B.recording book.old).capacity (B.recording book.old).history → IsLawful (B.recording book.old) (sleep (B.recording book.old) who ticks) }
 {
+    sleeps_are_lawful();
     match sleep_told(book, who, ticks, &mut Nobody) {
         Ok(slept) => slept,
         Err(_) => unreachable!(),
     }
 }
+
+/// Of each sleep behind a legal history: it makes its wake-ups alone; what expires at one of them does so from its due
+/// time to its deadline; and each but the last is the deadline of something that expires there. It does nothing: who calls
+/// it knows this.
+#[tactic(auto, using(crate::proofs::Laws::sleep_lawful))]
+pub fn sleeps_are_lawful()
+    ensures { (r : Recording) → IsLegal r.limits r.capacity r.history → (who : Actor) (ticks : ℕ) → IsLawful r (sleep r who ticks) }
+{}
 
 // Nobody listens.
 #[derive(Drop)]

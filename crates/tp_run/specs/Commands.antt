@@ -5,7 +5,7 @@ use Rattle.tp_report.specs.declared.headers.TheConstants.{EVENT_LIMIT}
 use Rattle.tp_report.specs.declared.playing.MachineSize.{MachineSize}
 use Rattle.tp_run.specs.Numbers.{number_in}
 use Rattle.tp_run.specs.declared.command.Command.{Command}
-use Rattle.tp_run.specs.declared.command.Command.TheVariants.{Trace, History, Libraries, Legacy, Check, Migrate, Port, Gen, Run, Big}
+use Rattle.tp_run.specs.declared.command.Command.TheVariants.{Trace, History, Libraries, Legacy, Windows, Check, Migrate, Port, Gen, Run, Big}
 use Rattle.tp_run.specs.declared.command.Name.{Name}
 use Rattle.tp_run.specs.declared.command.Name.TheVariants as name
 use Rattle.tp_words.specs.Said.{said, Said}
@@ -17,6 +17,7 @@ name_in word =
     else if bytes_eq word (codes "history") then Some name.History
     else if bytes_eq word (codes "libraries") then Some name.Libraries
     else if bytes_eq word (codes "legacy") then Some name.Legacy
+    else if bytes_eq word (codes "windows") then Some name.Windows
     else if bytes_eq word (codes "check") then Some name.Check
     else if bytes_eq word (codes "migrate") then Some name.Migrate
     else if bytes_eq word (codes "port") then Some name.Port
@@ -62,6 +63,7 @@ command_named name.Trace threads seed machine json number = without_number numbe
 command_named name.History threads seed machine json number = without_number number (History machine)
 command_named name.Libraries threads seed machine json number = without_number number (Libraries machine)
 command_named name.Legacy threads seed machine json number = without_number number (Legacy machine)
+command_named name.Windows threads seed machine json number = without_number number (Windows machine)
 command_named name.Check threads seed machine json number = without_number number Check
 command_named name.Migrate threads seed machine json number = without_number number Migrate
 command_named name.Port threads seed machine json number = without_number number Port

@@ -9,12 +9,14 @@ use Rattle.tp_base.specs.declared.calls.Call.{Call}
 use Rattle.tp_base.specs.declared.ids.Who.{Who}
 use Rattle.tp_edge.specs.Taken.{AreAll}
 use Rattle.tp_lines.specs.Calls.{IsLine}
+use Rattle.tp_coalesce.specs.Lines.{lines_come_to as sleep_lines_come_to, who_of as sleep_who_of, SleepLines}
+use Rattle.tp_coalesce.specs.declared.SleepCall.{SleepCall}
 use Rattle.tp_legacy.specs.Lines.{lines_come_to as legacy_lines_come_to, who_of as legacy_who_of, LegacyLines}
 use Rattle.tp_legacy.specs.declared.LegacyCall.{LegacyCall}
 use Rattle.tp_library.specs.Lines.{lines_come_to, who_of, LibLines}
 use Rattle.tp_library.specs.declared.LibCall.{LibCall}
 use Rattle.tp_run.specs.declared.command.Command.{Command}
-use Rattle.tp_run.specs.declared.command.Command.TheVariants.{Trace, History, Libraries, Legacy, Check, Migrate, Port, Gen, Run, Big}
+use Rattle.tp_run.specs.declared.command.Command.TheVariants.{Trace, History, Libraries, Legacy, Windows, Check, Migrate, Port, Gen, Run, Big}
 use Rattle.tp_run.specs.declared.played.Layout.{Layout}
 use Rattle.tp_run.specs.declared.status.Ending.{Ending}
 use Rattle.tp_run.specs.declared.status.Ending.TheVariants.{Fine, NotLegal}
@@ -83,6 +85,7 @@ IsPlayable (Trace machine) = IsMachineSize machine
 IsPlayable (History machine) = IsMachineSize machine
 IsPlayable (Libraries machine) = IsMachineSize machine
 IsPlayable (Legacy machine) = IsMachineSize machine
+IsPlayable (Windows machine) = IsMachineSize machine
 IsPlayable Check = Unit {0}
 IsPlayable Migrate = Unit {0}
 IsPlayable Port = Unit {0}
@@ -99,6 +102,10 @@ libraries_output machine calls = layer_output who_of lines_come_to machine.worke
 abbrev pub legacy_output : MachineSize → List (Who × LegacyCall) → List ℕ
 legacy_output machine calls = layer_output legacy_who_of legacy_lines_come_to machine.workers machine.events calls
 
+-- and those of a trace with sleeps
+abbrev pub windows_output : MachineSize → List (Who × SleepCall) → List ℕ
+windows_output machine calls = layer_output sleep_who_of sleep_lines_come_to machine.workers machine.events calls
+
 -- whether a command has an input, which is what the source has
 abbrev pub reads : Option Command → Bool
 reads None = false
@@ -106,6 +113,7 @@ reads (Some (Trace machine)) = true
 reads (Some (History machine)) = true
 reads (Some (Libraries machine)) = true
 reads (Some (Legacy machine)) = true
+reads (Some (Windows machine)) = true
 reads (Some Check) = true
 reads (Some Migrate) = true
 reads (Some Port) = true
@@ -136,6 +144,7 @@ Gives (Some (Trace machine)) bytes output ending = (calls : List (Who × Call)) 
 Gives (Some (History machine)) bytes output ending = (calls : List (Who × Call)) × IsTraceOf bytes calls × (output ≡ history_output_of machine calls) × (ending ≡ Fine)
 Gives (Some (Libraries machine)) bytes output ending = (calls : List (Who × LibCall)) × AreLines LibLines calls bytes × (output ≡ libraries_output machine calls) × (ending ≡ Fine)
 Gives (Some (Legacy machine)) bytes output ending = (calls : List (Who × LegacyCall)) × AreLines LegacyLines calls bytes × (output ≡ legacy_output machine calls) × (ending ≡ Fine)
+Gives (Some (Windows machine)) bytes output ending = (calls : List (Who × SleepCall)) × AreLines SleepLines calls bytes × (output ≡ windows_output machine calls) × (ending ≡ Fine)
 Gives (Some Check) bytes output ending = IsJudged bytes output ending verdict_written
 Gives (Some Migrate) bytes output ending = IsJudged bytes output ending migration_written
 Gives (Some Port) bytes output ending = IsPortedOf bytes output ending
@@ -157,6 +166,7 @@ IsInGrammar (Some (Trace machine)) bytes = (calls : List (Who × Call)) × IsTra
 IsInGrammar (Some (History machine)) bytes = (calls : List (Who × Call)) × IsTraceOf bytes calls
 IsInGrammar (Some (Libraries machine)) bytes = (calls : List (Who × LibCall)) × AreLines LibLines calls bytes
 IsInGrammar (Some (Legacy machine)) bytes = (calls : List (Who × LegacyCall)) × AreLines LegacyLines calls bytes
+IsInGrammar (Some (Windows machine)) bytes = (calls : List (Who × SleepCall)) × AreLines SleepLines calls bytes
 IsInGrammar (Some Migrate) bytes = (header : Header) × (lines : List HistoryLine) × IsHistory bytes header lines
 IsInGrammar (Some Port) bytes = (devices : List (List Operation)) × IsPortText bytes devices
 IsInGrammar (Some Check) bytes = (header : Header) × (lines : List HistoryLine) × IsHistory bytes header lines
@@ -171,6 +181,7 @@ IsFaultyAt (Some (Trace machine)) bytes line column = IsTraceFault IsLine bytes 
 IsFaultyAt (Some (History machine)) bytes line column = IsTraceFault IsLine bytes line column
 IsFaultyAt (Some (Libraries machine)) bytes line column = IsTraceFault (AnyOf LibLines) bytes line column
 IsFaultyAt (Some (Legacy machine)) bytes line column = IsTraceFault (AnyOf LegacyLines) bytes line column
+IsFaultyAt (Some (Windows machine)) bytes line column = IsTraceFault (AnyOf SleepLines) bytes line column
 IsFaultyAt (Some Check) bytes line column = IsHistoryFault bytes line column
 IsFaultyAt (Some Migrate) bytes line column = IsHistoryFault bytes line column
 IsFaultyAt (Some Port) bytes line column = IsPortFault bytes line column

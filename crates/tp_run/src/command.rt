@@ -30,6 +30,11 @@ pub enum Command {
     Legacy {
         machine: MachineSize,
     },
+    /// Plays a trace with sleeps on a machine of this size, and writes what each line comes to: of a sleep what each of its
+    /// wake-ups comes to, and how it ends.
+    Windows {
+        machine: MachineSize,
+    },
     /// Reads a history, and writes whether it is legal.
     Check,
     /// Reads a history, and writes it in format 2 if it is legal, or else what `Check` writes.
@@ -108,6 +113,7 @@ impl Command {
             | Command::History { .. }
             | Command::Libraries { .. }
             | Command::Legacy { .. }
+            | Command::Windows { .. }
             | Command::Check
             | Command::Migrate
             | Command::Port
@@ -124,6 +130,7 @@ pub enum Name {
     History,
     Libraries,
     Legacy,
+    Windows,
     Check,
     Migrate,
     Port,
@@ -166,6 +173,7 @@ fn command_said(texts: &Texts) -> Option<Command>
         Name::History => without_number(texts.number, Command::History { machine }),
         Name::Libraries => without_number(texts.number, Command::Libraries { machine }),
         Name::Legacy => without_number(texts.number, Command::Legacy { machine }),
+        Name::Windows => without_number(texts.number, Command::Windows { machine }),
         Name::Check => without_number(texts.number, Command::Check),
         Name::Migrate => without_number(texts.number, Command::Migrate),
         Name::Port => without_number(texts.number, Command::Port),
@@ -205,6 +213,8 @@ fn name_in(word: &str) -> Option<Name>
         Name::Libraries
     } else if word == "legacy" {
         Name::Legacy
+    } else if word == "windows" {
+        Name::Windows
     } else if word == "check" {
         Name::Check
     } else if word == "migrate" {

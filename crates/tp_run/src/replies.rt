@@ -19,6 +19,7 @@ use script_generator::{generate, generated_is_script};
 use std::alloc::{AllocError, Global};
 use std::sync::Wait;
 use std::thread::Threads;
+use tp_coalesce::play_windows;
 use tp_legacy::play_legacy;
 use tp_library::play_libraries;
 use tp_port::PortGate;
@@ -84,6 +85,13 @@ pub fn reply<B: Recorded, G: Gate>(
         }
         Command::Legacy { machine } => {
             let text = play_legacy::<B>(alloc, machine.workers, machine.events, bytes)?;
+            Ok(Output {
+                text,
+                ending: Ending::Fine,
+            })
+        }
+        Command::Windows { machine } => {
+            let text = play_windows::<B>(alloc, machine.workers, machine.events, bytes)?;
             Ok(Output {
                 text,
                 ending: Ending::Fine,
