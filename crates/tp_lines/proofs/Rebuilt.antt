@@ -101,6 +101,7 @@ is_plain field.Refusal = false
 is_plain field.State = false
 is_plain field.Target = false
 is_plain field.OldCall = false
+is_plain field.SleepCall = false
 is_plain _ = true
 
 abbrev is_cancel : List Field → Bool

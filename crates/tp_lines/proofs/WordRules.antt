@@ -52,6 +52,7 @@ rank field.Owner = 18
 rank field.OldCall = 19
 rank field.Span = 20
 rank field.Times = 21
+rank field.SleepCall = 22
 rank _ = 0
 
 abbrev pub first_of_two : Bool → Word → Option Word → Option Word

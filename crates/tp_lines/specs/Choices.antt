@@ -75,6 +75,7 @@ default_word field.Action = word.Action action.Event
 default_word field.OldCall = word.CreateQueue
 default_word field.Span = word.Span false
 default_word field.Times = word.Times false
+default_word field.SleepCall = word.Sleep
 default_word _ = word.Take
 
 -- the word is one of these

@@ -188,6 +188,7 @@ room_of field.State = 3
 room_of field.Target = 2
 room_of field.Group = 2
 room_of field.OldCall = 6
+room_of field.SleepCall = 2
 room_of _ = 1
 
 abbrev pub room : List Field → ℕ

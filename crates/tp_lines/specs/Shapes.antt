@@ -131,6 +131,7 @@ shape_of word.DeleteTimer = record { table = field.OldCall; text = codes "delete
 shape_of word.DeleteQueue = record { table = field.OldCall; text = codes "delete-queue"; fields = field.Short ∷ [] }
 shape_of (word.Span long) = record { table = field.Span; text = text_of_span long; fields = [] }
 shape_of (word.Times once) = record { table = field.Times; text = text_of_times once; fields = [] }
+shape_of word.Sleep = record { table = field.SleepCall; text = codes "sleep"; fields = field.Time ∷ [] }
 
 abbrev pub table_of : Word → Field
 table_of word = (shape_of word).table

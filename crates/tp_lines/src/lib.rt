@@ -11,7 +11,7 @@
 //! a word is told by the fields that it brings (`words`), and the range of a number by its field. So one
 //! reader reads all rows (`read_parts`), with the exact place of a fault, and a row tells its call or answer
 //! (`call_at`, `answer_at`). A layer above reads the rows of a table of its own by the same: those of `OldCall` are the
-//! calls of the pool before Vista.
+//! calls of the pool before Vista, and that of `SleepCall` is a sleep.
 //!
 //! ```text
 //! read_call_line(b"c1 submit 1")      // Ok(((Who::Client(1), Call::SubmitWork { object: ObjectId(1) }), 11))

@@ -460,6 +460,7 @@ fn default_word(field: Field) -> Word
         Field::OldCall => Word::CreateQueue,
         Field::Span => Word::Span(false),
         Field::Times => Word::Times(false),
+        Field::SleepCall => Word::Sleep,
         _ => Word::Take,
     }
 }

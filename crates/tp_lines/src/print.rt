@@ -94,6 +94,21 @@ impl Lines {
         Ok(())
     }
 
+    /// Prints a text of at most 200 bytes, a number in decimal right behind it, and a second one behind a space, as a
+    /// line. On want of memory nothing is printed.
+    pub fn two_numbers(&mut self, text: &[u8], first: u64, second: u64) -> Result<(), AllocError>
+        requires { length text.now ≤ 200 }
+        ensures ok { OnOk result (self.new ≡ self.old ++ (text.now ++ decimal first ++ 32 ∷ decimal second ++ 10 ∷ [])) }
+        ensures err { OnErr result (self.new ≡ self.old) }
+    {
+        make_room(&mut self.bytes, self.end)?;
+        let start = line::text(text, &mut self.bytes, self.end);
+        let between = line::digits(first, &mut self.bytes, start);
+        let end = line::number(second, &mut self.bytes, between);
+        self.end = line::byte(b'\n', &mut self.bytes, end);
+        Ok(())
+    }
+
     /// The text of all lines.
     pub fn into_text(mut self) -> Vec<u8>
         ensures { result.items ≡ self }

@@ -84,6 +84,8 @@ pub enum Field {
     Span,
     /// Whether a registration is for `once`, or is to `repeat`.
     Times,
+    /// The word of a sleep, and its field.
+    SleepCall,
 }
 
 /// A word of a line.
@@ -208,6 +210,7 @@ pub enum Word {
     DeleteQueue,
     Span(bool),
     Times(bool),
+    Sleep,
 }
 
 // All words by the field in which each stands: the word, its text, and the fields behind it. Calls stand in their
@@ -399,6 +402,9 @@ macro_rules! words {
                 (Word::Times(true)) b"once" [];
                 (Word::Times(false)) b"repeat" [];
             }
+            SleepCall {
+                (Word::Sleep) b"sleep" [Time];
+            }
         }
     };
 }
@@ -427,7 +433,7 @@ macro_rules! all_words {
 }
 
 /// All words.
-pub static WORDS: [Word; 141] = words!(all_words, ());
+pub static WORDS: [Word; 142] = words!(all_words, ());
 
 // What is known of a word.
 struct Known {
