@@ -2,13 +2,13 @@
 # where bash doesn't find it by itself: . script/completion.bash
 # shellcheck shell=bash
 
-_tpool_commands='trace show history libraries legacy check migrate calls-of run runs port gen big calls prove install help'
+_tpool_commands='trace show history libraries legacy windows check migrate calls-of run runs port gen big calls prove install help'
 
 # The options of a command.
 _tpool_options() {
     local plays='--workers --events'
     case $1 in
-    trace | history | libraries | legacy) echo "$plays" ;;
+    trace | history | libraries | legacy | windows) echo "$plays" ;;
     show) echo "$plays --script" ;;
     run) echo "$plays --seed --threads --json --summary" ;;
     runs) echo "$plays --threads --json --keep --fail-on" ;;

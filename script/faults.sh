@@ -32,7 +32,7 @@ find_cause() {
     rest=$(rest_of_line "$line" "$column" 60)
     case $command:$line:$column:$rest in
     *:1:1:device) cause='these are devices, it seems: ./tpool port reads them' ;;
-    trace:1:1:'history '* | libraries:1:1:'history '* | legacy:1:1:'history '* | port:1:1:'history '* | run*:1:1:'history '*) cause='this is a history: ./tpool check reads it' ;;
+    trace:1:1:'history '* | libraries:1:1:'history '* | legacy:1:1:'history '* | windows:1:1:'history '* | port:1:1:'history '* | run*:1:1:'history '*) cause='this is a history: ./tpool check reads it' ;;
     history:1:1:'history '*) cause='this is a history: ./tpool check reads it, and ./tpool migrate writes it in format 2' ;;
     port:1:1:[cw][0-9]* | run*:1:1:[cw][0-9]*) cause='this is a trace: ./tpool trace plays it' ;;
     run*) cause=$(find_in_script "$line" "$column") ;;
@@ -43,9 +43,10 @@ find_cause() {
     *:1:[12]:*) ! is_script || cause='this is a script, it seems: ./tpool run plays it' ;;&
     port:*) cause=${cause:-$(find_among_devices "$line" "$column" "$rest")} ;;
     check:*:1:[cw0-9]*) cause=${cause:-$(find_moment "$rest")} ;;
-    trace:* | history:* | show:* | libraries:*) ! is_old_call "$line" || cause='this is a call of the pool before Vista: ./tpool legacy plays it' ;;&
-    trace:*:*:*' l'[0-9]* | history:*:*:*' l'[0-9]* | show:*:*:*' l'[0-9]* | legacy:*:*:*' l'[0-9]*) cause='this has to do with a library: ./tpool libraries plays it' ;;
-    trace:*:*:' -> '* | libraries:*:*:' -> '* | legacy:*:*:' -> '*) cause='an answer stands here, as in a history: ./tpool check reads those' ;;
+    trace:* | history:* | show:* | libraries:* | legacy:*) ! is_sleep "$line" || cause='this is a sleep: ./tpool windows plays it' ;;&
+    trace:* | history:* | show:* | libraries:* | windows:*) ! is_old_call "$line" || cause='this is a call of the pool before Vista: ./tpool legacy plays it' ;;&
+    trace:*:*:*' l'[0-9]* | history:*:*:*' l'[0-9]* | show:*:*:*' l'[0-9]* | legacy:*:*:*' l'[0-9]* | windows:*:*:*' l'[0-9]*) cause='this has to do with a library: ./tpool libraries plays it' ;;
+    trace:*:*:' -> '* | libraries:*:*:' -> '* | legacy:*:*:' -> '* | windows:*:*:' -> '*) cause='an answer stands here, as in a history: ./tpool check reads those' ;;
     *) cause=${cause:-$(find_meant "$line" "$column")} ;;
     esac
     [[ -n $cause ]] || find_byte "$line" "$column" "$rest"
@@ -129,6 +130,13 @@ is_old_call() {
     read -r _ word queue _ < <(rest_of_line "$1" 1 40)
     [[ $word != create-timer || $queue != r* ]] || return
     [[ " queue-item register unregister create-queue create-timer change-timer delete-timer delete-queue " == *" $word "* ]]
+}
+
+# Whether the call of line $1 is a sleep.
+is_sleep() {
+    local word
+    read -r _ word _ < <(rest_of_line "$1" 1 40)
+    [[ $word == sleep ]]
 }
 
 # The word that is meant by one that is none, if one is near.

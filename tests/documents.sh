@@ -4,6 +4,8 @@
 # - a table that begins with `| Line | Comes to |`: its rows are one trace with libraries, and what each line comes to, the
 #   lines of that with `; ` between them;
 # - a table that begins with `| Old or new call | Prints |`: its rows are one trace with old calls, and the answers;
+# - a table that begins with `| Call or sleep | Prints |`: its rows are one trace with sleeps, and what each line comes to, the
+#   lines of that with `; ` between them;
 # - a table that begins with `| Line | Column |`: each row is a bad line of a trace by itself;
 # - a block marked `console`: commands behind `$ `, each with what a terminal shows of it, standard
 #   output and standard error;
@@ -51,6 +53,13 @@ plays_legacy() {
     local rows=$2
     input=$(cut -f 1 <<<"$rows")$'\n'
     try "$1" 0 "$(cut -f 2 <<<"$rows")"$'\n' '' "$program" legacy
+}
+
+# The same with sleeps.
+plays_sleeps() {
+    local rows=$2
+    input=$(cut -f 1 <<<"$rows")$'\n'
+    try "$1" 0 "$(cut -f 2 <<<"$rows" | sed 's/; /\n/g')"$'\n' '' "$program" windows
 }
 
 # The rows of each table of a page whose header begins so, cells 1 and 2 without their quotes, with a
@@ -152,6 +161,7 @@ try 'the tables of the README are its examples' 0 '' '' tables_are README.md '| 
 try 'the tables of docs/MACHINE.md are its examples' 0 '' '' tables_are docs/MACHINE.md '| Call | Prints |' kind-work.trace kind-timer.trace kind-wait.trace kind-io.trace kind-pool.trace kind-group.trace kind-callback.trace kind-kernel.trace kind-actors.trace kind-environment.trace
 try 'the table of libraries is its example' 0 '' '' tables_are docs/MACHINE.md '| Line | Comes to |' plugin.libraries
 try 'the table of old calls is its example' 0 '' '' tables_are docs/MACHINE.md '| Old or new call | Prints |' watchdog.legacy
+try 'the table of sleeps is its example' 0 '' '' tables_are docs/MACHINE.md '| Call or sleep | Prints |' wake-ups.windows
 try 'the tables of docs/GUIDE.md are its examples' 0 '' '' tables_are docs/GUIDE.md '| Call | Prints |' guide-quiet.trace guide-disassociated.trace guide-late-submit.trace guide-half-mended.trace guide-mended.trace
 
 # The script of the README is that of its example, without the comments.
@@ -172,6 +182,7 @@ for file in "$here"/README.md "$here/docs"/*.md "$here/windows/README.md" "$here
     each_part plays "$page, table" < <(tables_of "$file" '| Call | Prints |')
     each_part plays_libraries "$page, libraries" < <(tables_of "$file" '| Line | Comes to |')
     each_part plays_legacy "$page, old calls" < <(tables_of "$file" '| Old or new call | Prints |')
+    each_part plays_sleeps "$page, sleeps" < <(tables_of "$file" '| Call or sleep | Prints |')
     each_part bad_lines "$page, bad lines" < <(tables_of "$file" '| Line | Column |')
     each_part session "$page, console" < <(blocks_of "$file" console)
     each_part is_legal "$page, history" < <(blocks_of "$file" history)

@@ -1,6 +1,6 @@
-# The lines of calls and of answers, from the file entry_lines, which is read first: `call`, `library` or `legacy` for a call
-# that only a trace with libraries or with old calls may have, or `answer`, and the words behind an actor or an arrow. A word
-# is what may stand there, with `|` between each two, or a name for that (`choices`). What may stand there is a text, a
+# The lines of calls and of answers, from the file entry_lines, which is read first: `call`; `library`, `legacy` or `sleep` for
+# a call that only a trace with libraries, with old calls or with sleeps may have; or `answer`; and the words behind an actor
+# or an arrow. A word is what may stand there, with `|` between each two, or a name for that (`choices`). What may stand there is a text, a
 # number, or a text in front of a number. A number has a name in capitals, and is one from `least` to `most`.
 
 BEGIN {

@@ -75,6 +75,8 @@ fail_commands() {
     fail_all 'a trace with libraries' "memory $streams" "$program" libraries
     input=$(<"$here/examples/watchdog.legacy")$'\n'
     fail_all 'a trace with old calls' "memory $streams" "$program" legacy
+    input=$(<"$here/examples/wake-ups.windows")$'\n'
+    fail_all 'a trace with sleeps' "memory $streams" "$program" windows
     input=$'c1 submit 01\n'
     fail_all 'a bad line' "memory $streams" "$program" trace
     input=$(<"$here/examples/shutdown.history")$'\n'

@@ -21,7 +21,7 @@ function along_line(    reach) {
     reach = timed ? then_text(along_number("TICKS", 1), " ") : 1
     if (reach > 0) reach = along_word("WHO", reach)
     reach = then_text(reach, " ")
-    if (of ~ /^(library|legacy)$/) return further(then_kind(reach, "call"), then_kind(reach, of))
+    if (of ~ /^(library|legacy|sleep)$/) return further(then_kind(reach, "call"), then_kind(reach, of))
     reach = then_kind(reach, "call")
     if (of == "call") return reach
     reach = then_kind(then_text(reach, " -> "), "answer")

@@ -43,12 +43,15 @@ draw_lines library library 81 libraries '' &
 drawn_of_libraries=$!
 draw_lines legacy legacy 81 legacy '' &
 drawn_of_old=$!
+draw_lines sleep sleep 270 windows '' &
+drawn_of_sleeps=$!
 draw_lines answer answer 81 check 'history 1 clients 16 workers 64 events 131072' &
 drawn_answers=$!
 draw_lines timed answer 27 check 'history 2 clients 16 workers 64 events 131072 objects 65535' -v timed=1
-wait "$drawn_calls" "$drawn_of_libraries" "$drawn_of_old" "$drawn_answers"
+wait "$drawn_calls" "$drawn_of_libraries" "$drawn_of_old" "$drawn_of_sleeps" "$drawn_answers"
 count_lines call call 54
 count_lines library library 81
 count_lines legacy legacy 81
+count_lines sleep sleep 270
 count_lines answer answer 81
 count_lines timed answer 27

@@ -55,7 +55,7 @@ try 'help fits 80 columns' 0 '' '' too_wide
 
 # --- Calls
 lists() { "$tpool" calls | awk '/^  / { lines++; words[$1] } END { for (word in words) calls++; print lines, calls }'; }
-try 'the calls' 0 $'58 49\n' '' lists
+try 'the calls' 0 $'59 50\n' '' lists
 try 'a call by its word' 0 $'~### `submit`: SubmitThreadpoolWork\n*' '' "$tpool" calls submit
 for name in SubmitThreadpoolWork submitthreadpoolwork; do
     try "a call by its function, $name" 0 "$("$tpool" calls submit)"$'\n' '' "$tpool" calls "$name"
@@ -190,7 +190,7 @@ try 'a long line' 2 '' $'~tpool: bad line 1 column 12\n1:12: a number has no lea
 input=$'w1 take\nc1 submit 01\n'
 place=$'2:12: a number has no leading zeros\n    c1 submit 01\n               ^\n'
 by_fifo() { mkfifo "$room/fifo" && { cat >"$room/fifo" & } && "$@" "$room/fifo"; }
-for command in trace show history libraries legacy; do
+for command in trace show history libraries legacy windows; do
     try "a bad line by a pipe: $command" 2 '' $'tpool: bad line 2 column 12\n'"$place" by_pipe "$tpool" "$command"
     try "a bad line of a file: $command" 2 '' $'tpool: bad line 2 column 12\n'"$room/input:$place" "$tpool" "$command" "$room/input"
 done
@@ -251,12 +251,12 @@ try 'what refusals and looks are about' 0 "$(<"$here/tests/subjects")"$'\n' '' o
 
 # --- Streams
 input=$'c1 submit 1\n'
-for command in trace show history libraries legacy calls help --version; do
+for command in trace show history libraries legacy windows calls help --version; do
     try "nothing can be written: $command" 4 '' $'tpool: write fault\n' to /dev/full "$tpool" "$command"
     try "standard output is closed: $command" 4 '' $'tpool: write fault\n' without_output "$tpool" "$command"
     try "nobody reads: $command" 4 '' '' into_closed_pipe "$tpool" "$command"
 done
-for command in trace show history libraries legacy check migrate; do
+for command in trace show history libraries legacy windows check migrate; do
     try "standard input is closed: $command" 3 '' $'tpool: read fault\n' without_input "$tpool" "$command"
 done
 try 'standard error is closed' 0 "$answers" '' without_errors "$tpool" trace "$trace"
@@ -268,12 +268,12 @@ try 'a long trace of which one line is read' 0 $'made 1\n' '' first_line "$tpool
 try 'the same side by side' 0 $'    1      1  c1 create-pool  made 1\n' '' first_line "$tpool" show "$room/long"
 try 'a long trace that can not be written' 4 '' $'tpool: write fault\n' to /dev/full "$tpool" trace "$room/long"
 last_line() { "$@" | tail -n 1; }
-for command in trace show history libraries legacy; do
+for command in trace show history libraries legacy windows; do
     try "how many are full: $command" 0 '~*' "~$full" last_line "$tpool" "$command" "$room/long"
 done
 full_history() { "$tpool" history "$room/long" 2>/dev/null | "$tpool" check; }
 try 'the history of a trace that fills it is legal' 0 $'legal 65535\n' '' full_history
-for words in help calls 'calls submit' "calls-of $history" "show $trace" "history $trace" "libraries $here/examples/plugin.libraries" "legacy $here/examples/watchdog.legacy" "check $here/examples/guide-mended.history" "run $here/examples/server.script" 'gen 7'; do
+for words in help calls 'calls submit' "calls-of $history" "show $trace" "history $trace" "libraries $here/examples/plugin.libraries" "legacy $here/examples/watchdog.legacy" "windows $here/examples/wake-ups.windows" "check $here/examples/guide-mended.history" "run $here/examples/server.script" 'gen 7'; do
     # shellcheck disable=SC2086
     try "one line is read, and nothing is said: $words" 0 '~*' '' first_line "$tpool" $words
 done
