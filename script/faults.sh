@@ -90,7 +90,7 @@ find_among_devices() {
 find_byte() {
     local byte before
     byte=$(line_of_input "$1" | tail -c +"$2" | head -c 1 | od -An -tu1)
-    before=$( (($2 == 1)) || rest_of_line "$1" $(($2 - 1)) 1)
+    before=$( (($2 == 1)) || rest_of_line "$1" $(($2 > 2 ? $2 - 2 : 1)) $(($2 > 2 ? 2 : 1)))
     cause=$(name_byte "${byte// /}" "$1" "$2" "$before" "$3")
 }
 
@@ -149,7 +149,7 @@ find_in_script() {
     tail -c +$((start + 1)) /dev/stdin 2>/dev/null | LC_ALL=C awk -v line="$1" -v column="$2" -f "$home/script/distance.awk" -f "$home/script/scripts.awk"
 }
 
-# What a byte at a fault's place may mean, with the one before it and those from it on.
+# What a byte at a fault's place may mean, with the one or two before it and those from it on.
 name_byte() {
     case $1:$2:$3 in
     :*:1) echo 'the input ends here, and one more line is missing' ;;
@@ -159,8 +159,8 @@ name_byte() {
     10:*) echo 'the line ends here, and something is missing' ;;
     13:*) echo 'a carriage return: lines end in LF alone, and not in CR LF' ;;
     32:*:1) echo 'a space in front of the line' ;;
-    32:*) [[ $4 != ' ' && -n ${5// /} ]] || echo 'a space too many' ;;
-    4[89]:* | 5[0-7]:*) [[ $4 != 0 ]] || echo 'a number has no leading zeros' ;;
+    32:*) [[ $4 != *' ' && -n ${5// /} ]] || echo 'a space too many' ;;
+    4[89]:* | 5[0-7]:*) [[ ! " $4" =~ [^0-9]0$ ]] || echo 'a number has no leading zeros' ;;
     6[5-9]:* | [78]?:* | 90:*) echo 'words are in small letters' ;;
     ?:* | [12]?:* | 3[01]:* | 127:*) echo 'a control character: the lines are plain ASCII' ;;
     12[89]:* | 1[3-9]?:* | 2??:*) echo 'a byte that is not ASCII' ;;

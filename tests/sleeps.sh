@@ -37,7 +37,7 @@ places=(
     '4:c1 queue-item r1 x0 short'
     '43:c1 create work r1 x0 p0 normal short g0 q0 l1'
     '15:c1 submit 65536'
-    '31:c1 advance 9223372036854775808'
+    '30:c1 advance 9223372036854775808'
 )
 for place in "${places[@]}"; do
     input=$'w64 sleep 9223372036854775807\n'"${place#*:}"$'\n'
@@ -160,7 +160,7 @@ try 'drawn sleeps' 0 $'10762 several at once\n4009 slept, wake-ups: 1\n1167 slep
 # Timers that are due far behind the sleep; then some of which each is due at a moment of its own, with windows of any length,
 # and one that is due each millisecond; and a sleep over them.
 far_timers() {
-    awk -v timers="$1" 'BEGIN { for (at = 1; at <= timers; at++) print "c1 create timer r1 x0 p0 normal short g0 q0\nc1 set-timer " at " " 900000000000 + at " 0 " at % 1001 }'
+    awk -v timers="$1" 'BEGIN { for (at = 1; at <= timers; at++) print "c1 create timer r1 x0 p0 normal short g0 q0\nc1 set-timer " at " " 900000000 + at " 0 " at % 1001 }'
 }
 near_timers() {
     awk -v before="$1" -v timers="$2" 'BEGIN {
@@ -214,4 +214,4 @@ shows windows 1 1 $'history 2 clients 1 workers 1 events 16 objects 9\n' 'this i
 shows windows 1 11 $'c1 sleep 5 -> slept 5 1\n' 'an answer stands here, as in a history: ./tpool check reads those'
 forms windows 1 9 $'c1 sleep\n' 'the line ends here, and TICKS is missing' 'sleep TICKS'
 # shellcheck disable=SC2016
-shows windows 1 6 $'c1 slep 5\n' '`sleep` is meant, it seems: ./tpool calls sleep'
+shows windows 1 7 $'c1 slep 5\n' '`sleep` is meant, it seems: ./tpool calls sleep'
