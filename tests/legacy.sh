@@ -108,9 +108,9 @@ legacy() {
 }
 returned='returned - - - - 0 0'
 
-for trace in "$here/tests/old_traces"/*; do
-    mapfile -t lines <"$trace"
-    legacy "the old trace ${trace##*/}" "${lines[@]}"
+for file in "$here/tests/old_traces"/*; do
+    mapfile -t lines <"$file"
+    legacy "the old trace ${file##*/}" "${lines[@]}"
 done
 
 # What was never made, what is gone, and what is of another queue, before all that the machine would say.

@@ -125,9 +125,9 @@ last_objects() {
 try 'the last object' 0 $'made 65535\nrefused object-limit\nqueued 1 1\n' '' last_objects
 
 # Each file is a trace, with what each call comes to behind ` -> `.
-for trace in "$here/tests/traces"/*; do
-    input=$(sed 's/ -> .*//' "$trace")$'\n'
-    try "the trace ${trace##*/}" 0 "$(sed 's/.* -> //' "$trace")"$'\n' '' "$program" trace
+for file in "$here/tests/traces"/*; do
+    input=$(sed 's/ -> .*//' "$file")$'\n'
+    try "the trace ${file##*/}" 0 "$(sed 's/.* -> //' "$file")"$'\n' '' "$program" trace
 done
 
 # The default pool is never closed, so its persistent worker is never free for what is pending in another pool.

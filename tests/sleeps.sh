@@ -71,11 +71,11 @@ sleeps() {
     printf '%s@' "${options[*]/--/}"$'\n'"$input" >>"$room/drawn"
     { cat "$room/out" && printf @; } >>"$room/told"
 }
-for trace in "$here/tests/sleeps"/*; do
-    mapfile -t lines <"$trace"
+for file in "$here/tests/sleeps"/*; do
+    mapfile -t lines <"$file"
     options=()
-    [[ $trace != *-without-room ]] || options=(--events 16)
-    sleeps "the sleeps ${trace##*/}" "${lines[@]}"
+    [[ $file != *-without-room ]] || options=(--events 16)
+    sleeps "the sleeps ${file##*/}" "${lines[@]}"
 done
 input=$'w3 sleep 5\nc1 sleep 5\nc4 sleep 0\n'
 try 'sleeps on a machine of another size' 0 $'refused no-such\nstopped 0\nadvanced 5 0 0\nslept 5 1\nadvanced 5 0 0\nslept 5 1\n' '' "$program" --workers 2 windows --events=20
