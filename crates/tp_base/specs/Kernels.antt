@@ -5,7 +5,7 @@ use Rattle.tp_base.specs.declared.ids.Who.{Who}
 use Rattle.tp_base.specs.declared.calls.Lock.{Lock}
 use Rattle.tp_base.specs.declared.calls.Lock.TheVariants as lock
 use Rattle.tp_base.specs.declared.plans.KernelChange.{KernelChange}
-use Rattle.tp_base.specs.declared.plans.KernelChange.TheVariants.{Set, Reset, Raise, Leave}
+use Rattle.tp_base.specs.declared.plans.KernelChange.TheVariants.{Set, Reset, Raise, Leave, Take}
 use Rattle.tp_base.specs.declared.rows.KernelState.{KernelState}
 use Rattle.tp_base.specs.declared.rows.KernelState.TheVariants.{Event, Semaphore, Mutex, Section}
 use Rattle.tp_base.specs.Actors.{is_same_actor}
@@ -85,6 +85,7 @@ state_after Reset (Event manual signalled) = Event manual false
 state_after (Raise more) (Semaphore count maximum) = Semaphore (count + more) maximum
 state_after Leave (Mutex owner takings) = Mutex (owner_left owner takings) (takings - 1)
 state_after Leave (Section owner takings) = Section (owner_left owner takings) (takings - 1)
+state_after (Take who) state = taken_by who state
 state_after how state = state
 
 abbrev pub new_lock : Lock → Option Who → ℕ → KernelState

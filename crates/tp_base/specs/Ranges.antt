@@ -5,8 +5,8 @@ use Rattle.tp_base.specs.declared.limits.Limits.{Limits}
 use Rattle.tp_base.specs.declared.ids.KernelId.{KernelId}
 use Rattle.tp_base.specs.declared.calls.Call.{Call}
 use Rattle.tp_base.specs.declared.calls.Call.TheVariants.{ClosePool, SetMaximum, SetMinimum, CloseGroup, BeginClose, Create, CloseObject, SubmitSimple, SubmitWork}
-use Rattle.tp_base.specs.declared.calls.Call.TheVariants.{SetTimer, SetTimerEx, IsTimerSet, Advance, SetWait, StartIo, IssueIo, CancelIo, CompleteIo}
-use Rattle.tp_base.specs.declared.calls.Call.TheVariants.{BeginWait, BeginAcquire, CreateSemaphore, SetEvent, ResetEvent, ReleaseSemaphore, ReleaseLock, OnReturn}
+use Rattle.tp_base.specs.declared.calls.Call.TheVariants.{SetTimer, SetTimerEx, IsTimerSet, Advance, SetWait, StartIo, IssueIo, CancelIo, CompleteIo, CompleteNext}
+use Rattle.tp_base.specs.declared.calls.Call.TheVariants.{BeginWait, BeginAcquire, TryAcquire, CreateSemaphore, SetEvent, ResetEvent, ReleaseSemaphore, ReleaseLock, OnReturn}
 use Rattle.tp_base.specs.declared.calls.Environ.{Environ}
 use Rattle.tp_base.specs.declared.answers.Answer.{Answer}
 use Rattle.tp_base.specs.declared.answers.Answer.TheVariants as answer
@@ -77,8 +77,10 @@ IsCallInRange (StartIo object) = object.0 ≤ 65535
 IsCallInRange (IssueIo object) = object.0 ≤ 65535
 IsCallInRange (CancelIo object) = object.0 ≤ 65535
 IsCallInRange (CompleteIo callback error bytes) = (callback < 2 ^ 64) × (error < 2 ^ 32) × (bytes < 2 ^ 64)
+IsCallInRange (CompleteNext object error bytes) = (object.0 ≤ 65535) × (error < 2 ^ 32) × (bytes < 2 ^ 64)
 IsCallInRange (BeginWait kind object cancel) = object.0 ≤ 65535
 IsCallInRange (BeginAcquire kernel) = kernel.0 ≤ 65535
+IsCallInRange (TryAcquire kernel) = kernel.0 ≤ 65535
 IsCallInRange (CreateSemaphore initial maximum) = (initial ≤ count_most) × (maximum ≤ count_most)
 IsCallInRange (SetEvent kernel) = kernel.0 ≤ 65535
 IsCallInRange (ResetEvent kernel) = kernel.0 ≤ 65535

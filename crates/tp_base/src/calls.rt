@@ -165,6 +165,13 @@ pub enum Call {
         error: u32,
         bytes: u64,
     },
+    /// The same for the first operation of the object that is under way: what its device does next,
+    /// or with error 995 `CancelIoEx`, one operation at a time.
+    CompleteNext {
+        object: ObjectId,
+        error: u32,
+        bytes: u64,
+    },
     /// Begins a wait for the callbacks of an object, those that are pending cancelled or not:
     /// `WaitForThreadpoolWorkCallbacks` and its like for the other kinds.
     BeginWait {
@@ -175,6 +182,11 @@ pub enum Call {
     /// Begins a wait for a kernel object, which is taken when the wait ends: `WaitForSingleObject`,
     /// and for a section `EnterCriticalSection`.
     BeginAcquire {
+        kernel: KernelId,
+    },
+    /// Takes a kernel object if the actor may take it at once, and says whether it did. No wait is
+    /// begun: `WaitForSingleObject` with a time of 0, and for a section `TryEnterCriticalSection`.
+    TryAcquire {
         kernel: KernelId,
     },
     /// Ends the wait that the actor has begun, if nothing is left to wait for: the return of the
@@ -289,6 +301,7 @@ fn is_in_range(call: Call) -> bool
         | Call::StartIo { object }
         | Call::IssueIo { object }
         | Call::CancelIo { object }
+        | Call::CompleteNext { object, .. }
         | Call::BeginWait { object, .. } => object.0 <= 65_535,
         Call::Advance { ticks } => ticks <= CLOCK_END,
         Call::SetWait { object, kernel, .. } => {
@@ -302,6 +315,7 @@ fn is_in_range(call: Call) -> bool
             initial <= COUNT_MOST && maximum <= COUNT_MOST
         }
         Call::BeginAcquire { kernel }
+        | Call::TryAcquire { kernel }
         | Call::SetEvent { kernel }
         | Call::ResetEvent { kernel }
         | Call::ReleaseLock { kernel, .. } => kernel.0 <= 65_535,

@@ -100,6 +100,8 @@ pub enum KernelChange {
     Raise(u32),
     /// Its owner gives back one taking of a lock, which is free after the last.
     Leave,
+    /// An actor that may take it does.
+    Take(Who),
 }
 
 /// What makes callbacks pending by time, or by the signal of a kernel object.

@@ -148,7 +148,7 @@ changed_ahead w (change.ReleaseObject object) all = of_object (numbered w.object
     of_object (Some row) = some_ahead w.now (λ (s : TimerSetting). not (s.object.0 == object.0)) w.settings all
 changed_ahead w (change.Fire trigger first count) all = firing_ahead trigger (sources_of w) all
 changed_ahead w (change.Return by words first count) all =
-    performed_keeps (λ f. IsAhead f.sources) signal_ahead (λ kernel f h. h) words (slots_of by.callback.status) (jobless (sources_of w)) all
+    performed_keeps (λ f. IsAhead f.sources) (λ how _. signal_ahead how) (λ kernel f h. h) words (slots_of by.callback.status) (jobless (sources_of w)) all
 changed_ahead w (change.BeginClose who group cancel context notices) all = some_ahead w.now (λ (s : TimerSetting). not (is_member_at w group.0 s.object.0)) w.settings all
 changed_ahead w _ all = all
 

@@ -18,10 +18,10 @@ use Rattle.tp_base.specs.declared.limits.Limits.{Limits}
 use Rattle.tp_model.specs.Calls.Objects.{create_plan, close_object_plan}
 use Rattle.tp_model.specs.Calls.Timers.{set_timer_plan, advance_plan}
 use Rattle.tp_model.specs.Calls.WaitObjects.{set_wait_plan}
-use Rattle.tp_model.specs.Calls.Kernels.{create_event_plan, create_semaphore_plan, create_lock_plan, set_event_plan, reset_event_plan, release_semaphore_plan}
+use Rattle.tp_model.specs.Calls.Kernels.{create_event_plan, create_semaphore_plan, create_lock_plan, set_event_plan, reset_event_plan, release_semaphore_plan, release_lock_plan}
 use Rattle.tp_model.specs.Calls.Work.{submit_work_plan}
 use Rattle.tp_model.specs.Calls.Workers.{attach_plan, take_plan, return_plan}
-use Rattle.tp_model.specs.Calls.Waits.{begin_acquire_plan}
+use Rattle.tp_model.specs.Calls.Waits.{begin_acquire_plan, try_acquire_plan}
 use Rattle.tp_model.specs.Calls.End.{end_plan}
 use Rattle.tp_model.specs.History.{play, IsLegal}
 use Rattle.tp_model.specs.Laws.Armed.{AreArmed}
@@ -90,6 +90,43 @@ earliest_first : play limits 65536
     ∷ outcome.Look (look.NotYetKernel (record { 0 = 1 })) ∷ []
 unfolding limits plain create_plan set_wait_plan create_event_plan set_event_plan attach_plan take_plan begin_acquire_plan end_plan
 earliest_first = refl
+
+-- whoever asks for a kernel object without a wait takes it, if that can be at once, and begins no wait
+asked_without_a_wait : play limits 65536
+    (((Client 1), (call.CreateEvent false true))
+    ∷ ((Client 1), (call.TryAcquire (record { 0 = 1 })))
+    ∷ ((Client 1), (call.TryAcquire (record { 0 = 1 })))
+    ∷ ((Client 1), (call.End))
+    ∷ ((Client 1), (call.CreateLock lock.Mutex false))
+    ∷ ((Client 1), (call.TryAcquire (record { 0 = 2 })))
+    ∷ ((Client 2), (call.TryAcquire (record { 0 = 2 })))
+    ∷ ((Client 1), (call.TryAcquire (record { 0 = 2 })))
+    ∷ ((Client 1), (call.ReleaseLock lock.Mutex (record { 0 = 2 })))
+    ∷ ((Client 2), (call.TryAcquire (record { 0 = 2 })))
+    ∷ ((Client 1), (call.ReleaseLock lock.Mutex (record { 0 = 2 })))
+    ∷ ((Client 2), (call.TryAcquire (record { 0 = 2 })))
+    ∷ ((Client 1), (call.CreateEvent true true))
+    ∷ ((Client 1), (call.TryAcquire (record { 0 = 3 })))
+    ∷ ((Client 1), (call.TryAcquire (record { 0 = 3 })))
+    ∷ ((Client 1), (call.TryAcquire (record { 0 = 9 }))) ∷ [])
+    ≡ outcome.Done (answer.Made 1)
+    ∷ outcome.Done (answer.Flag true)
+    ∷ outcome.Done (answer.Flag false)
+    ∷ outcome.Done (answer.Refused refusal.NoWaitBegun)
+    ∷ outcome.Done (answer.Made 2)
+    ∷ outcome.Done (answer.Flag true)
+    ∷ outcome.Done (answer.Flag false)
+    ∷ outcome.Done (answer.Flag true)
+    ∷ outcome.Done answer.Done
+    ∷ outcome.Done (answer.Flag false)
+    ∷ outcome.Done answer.Done
+    ∷ outcome.Done (answer.Flag true)
+    ∷ outcome.Done (answer.Made 3)
+    ∷ outcome.Done (answer.Flag true)
+    ∷ outcome.Done (answer.Flag true)
+    ∷ outcome.Done (answer.Refused refusal.NoSuch) ∷ []
+unfolding limits create_event_plan create_lock_plan release_lock_plan try_acquire_plan end_plan
+asked_without_a_wait = refl
 
 -- a manual event releases every wait that is armed on it, in order of arming, and stays signalled
 manual_event : play limits 65536

@@ -9,14 +9,15 @@ use Rattle.tp_base.specs.declared.answers.Refusal.{Refusal}
 use Rattle.tp_base.specs.declared.answers.Refusal.TheVariants.{NotOwner, OverMaximum}
 use Rattle.tp_base.specs.declared.calls.Call.{Call}
 use Rattle.tp_base.specs.declared.calls.Call.TheVariants.{CreatePool, ClosePool, SetMaximum, SetMinimum, CreateGroup, CloseGroup, BeginClose, Create, CloseObject, SubmitSimple, SubmitWork}
-use Rattle.tp_base.specs.declared.calls.Call.TheVariants.{SetTimer, SetTimerEx, IsTimerSet, Advance, SetWait, StartIo, IssueIo, CancelIo, CompleteIo}
-use Rattle.tp_base.specs.declared.calls.Call.TheVariants.{BeginWait, BeginAcquire, End, CreateEvent, CreateSemaphore, CreateLock, SetEvent, ResetEvent, ReleaseSemaphore, ReleaseLock}
+use Rattle.tp_base.specs.declared.calls.Call.TheVariants.{SetTimer, SetTimerEx, IsTimerSet, Advance, SetWait, StartIo, IssueIo, CancelIo, CompleteIo, CompleteNext}
+use Rattle.tp_base.specs.declared.calls.Call.TheVariants.{BeginWait, BeginAcquire, TryAcquire, End, CreateEvent, CreateSemaphore, CreateLock, SetEvent, ResetEvent, ReleaseSemaphore, ReleaseLock}
 use Rattle.tp_base.specs.declared.calls.Call.TheVariants.{Attach, Detach, Take, Return, MayRunLong, Disassociate, OnReturn, Finish}
 use Rattle.tp_base.specs.declared.calls.Kind.{Kind}
 use Rattle.tp_base.specs.declared.calls.Kind.TheVariants.{Work, Timer, Io}
 use Rattle.tp_base.specs.declared.calls.Environ.{Environ}
 use Rattle.tp_base.specs.declared.ids.GroupId.{GroupId}
 use Rattle.tp_base.specs.declared.ids.KernelId.{KernelId}
+use Rattle.tp_base.specs.declared.ids.ObjectId.{ObjectId}
 use Rattle.tp_base.specs.declared.ids.Who.{Who}
 use Rattle.tp_base.specs.declared.ids.Who.TheVariants.{Client, Worker}
 use Rattle.tp_base.specs.declared.plans.Change.{Change}
@@ -29,13 +30,13 @@ use Rattle.tp_base.specs.Kernels.{is_event, is_semaphore, is_lock, owns}
 use Rattle.tp_model.specs.Calls.Clients.{finish_plan, finish_refusals}
 use Rattle.tp_model.specs.Calls.Groups.{create_group_plan, close_group_plan, close_group_refusals, begin_close_plan, begin_close_refusals}
 use Rattle.tp_model.specs.Calls.InCallback.{busy_refusals, may_run_long_plan, disassociate_plan, on_return_plan, on_return_refusals}
-use Rattle.tp_model.specs.Calls.Io.{start_io_plan, start_io_refusals, expected_refusals, issue_io_plan, cancel_io_plan, complete_io_plan, complete_io_refusals}
+use Rattle.tp_model.specs.Calls.Io.{start_io_plan, start_io_refusals, expected_refusals, issue_io_plan, cancel_io_plan, complete_io_plan, complete_io_refusals, complete_next_plan, complete_next_refusals}
 use Rattle.tp_model.specs.Calls.Kernels.{create_event_plan, create_semaphore_plan, create_lock_plan, kernel_refusals, set_event_plan, reset_event_plan, release_semaphore_plan, release_semaphore_refusals, release_lock_plan}
 use Rattle.tp_model.specs.Calls.Objects.{create_plan, create_refusals, close_object_plan, close_object_refusals}
 use Rattle.tp_model.specs.Calls.Pools.{create_pool_plan, pool_refusals, close_pool_plan, set_maximum_plan, set_minimum_plan}
 use Rattle.tp_model.specs.Calls.Timers.{set_timer_plan, set_timer_ex_plan, set_timer_refusals, is_timer_set_plan, advance_plan, advance_refusals}
 use Rattle.tp_model.specs.Calls.WaitObjects.{set_wait_plan, set_wait_refusals}
-use Rattle.tp_model.specs.Calls.Waits.{begin_wait_plan, begin_wait_refusals, begin_acquire_plan, begin_acquire_refusals}
+use Rattle.tp_model.specs.Calls.Waits.{begin_wait_plan, begin_wait_refusals, begin_acquire_plan, begin_acquire_refusals, try_acquire_plan}
 use Rattle.tp_model.specs.Calls.Work.{submit_work_plan, submit_work_refusals, submit_simple_plan, submit_simple_refusals}
 use Rattle.tp_model.specs.Calls.Workers.{return_plan, return_refusals}
 use Rattle.tp_model.specs.Conditions.{is_actor, is_finished, is_in_wait, is_worker, is_without_callback, is_released, is_pool, is_object, is_no_group_or_group, runs_callback, worker_of}
@@ -146,6 +147,18 @@ module _ (w : World) (who : Who) (a : Answer) (ch : Change) where
       let none = (passed (begin_acquire_refusals w who kernel.0) _ a ch is).0 in
       record { actor = is_there (is_actor w who) (not (is_kernel w kernel.0)) none.0; finished = none.1.0; without = none.1.1.0; waits = none.1.1.1.0 }
 
+  accepted_try : (kernel : KernelId) → try_acquire_plan w who kernel ≡ plans.Does a ch → IsFree w who
+  unfolding try_acquire_plan
+  accepted_try kernel is =
+      let none = (passed (begin_acquire_refusals w who kernel.0) _ a ch is).0 in
+      record { actor = is_there (is_actor w who) (not (is_kernel w kernel.0)) none.0; finished = none.1.0; without = none.1.1.0; waits = none.1.1.1.0 }
+
+  accepted_next : (object : ObjectId) (error bytes : ℕ) → complete_next_plan w who object error bytes ≡ plans.Does a ch → IsFree w who
+  unfolding complete_next_plan
+  accepted_next object error bytes is =
+      let none = (passed (complete_next_refusals w who object.0) _ a ch is).0 in
+      record { actor = is_there (is_actor w who) (not (is_object w object.0)) none.0; finished = none.1.1.0; without = none.1.1.1.0; waits = none.1.1.1.1.0 }
+
   of_busy : (p : Plan) → unless_refused (first_refusal (busy_refusals w who)) p ≡ plans.Does a ch → IsFree w who
   of_busy p is =
       let none = (passed (busy_refusals w who) p a ch is).0 in
@@ -195,8 +208,10 @@ module _ (w : World) (who : Who) (a : Answer) (ch : Change) where
   accepted_free n room (IssueIo object) other is = of_object Io object.0 (expected_refusals w who object.0) _ refl is
   accepted_free n room (CancelIo object) other is = of_object Io object.0 (expected_refusals w who object.0) _ refl is
   accepted_free n room (CompleteIo callback error bytes) other is = of_actor (complete_io_refusals w who callback) _ refl is
+  accepted_free n room (CompleteNext object error bytes) other is = accepted_next object error bytes is
   accepted_free n room (BeginWait kind object cancel) other is = of_object kind object.0 (begin_wait_refusals w who kind object.0) _ refl is
   accepted_free n room (BeginAcquire kernel) other is = accepted_acquire kernel is
+  accepted_free n room (TryAcquire kernel) other is = accepted_try kernel is
   accepted_free n room (CreateEvent manual signalled) other is = of_actor (make_refusals w who [] w.limits.kernels (length w.kernels)) _ refl is
   accepted_free n room (CreateSemaphore initial most) other is = of_actor (make_refusals w who ((nat_lt most initial || (most == 0), OverMaximum initial) ∷ []) w.limits.kernels (length w.kernels)) _ refl is
   accepted_free n room (CreateLock lock owned) other is = of_actor (make_refusals w who [] w.limits.kernels (length w.kernels)) _ refl is

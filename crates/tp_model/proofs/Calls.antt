@@ -3,8 +3,8 @@ use Rattle.std.proofs.Common.{◌≡◌, ℕ, ◌+◌, ◌≤◌, ◌^◌, arith
 use Rattle.tp_base.specs.declared.ids.Who.{Who}
 use Rattle.tp_base.specs.declared.calls.Call.{Call}
 use Rattle.tp_base.specs.declared.calls.Call.TheVariants.{CreatePool, ClosePool, SetMaximum, SetMinimum, CreateGroup, CloseGroup, BeginClose, Create, CloseObject, SubmitSimple, SubmitWork}
-use Rattle.tp_base.specs.declared.calls.Call.TheVariants.{SetTimer, SetTimerEx, IsTimerSet, Advance, SetWait, StartIo, IssueIo, CancelIo, CompleteIo}
-use Rattle.tp_base.specs.declared.calls.Call.TheVariants.{BeginWait, BeginAcquire, End, CreateEvent, CreateSemaphore, CreateLock, SetEvent, ResetEvent, ReleaseSemaphore, ReleaseLock}
+use Rattle.tp_base.specs.declared.calls.Call.TheVariants.{SetTimer, SetTimerEx, IsTimerSet, Advance, SetWait, StartIo, IssueIo, CancelIo, CompleteIo, CompleteNext}
+use Rattle.tp_base.specs.declared.calls.Call.TheVariants.{BeginWait, BeginAcquire, TryAcquire, End, CreateEvent, CreateSemaphore, CreateLock, SetEvent, ResetEvent, ReleaseSemaphore, ReleaseLock}
 use Rattle.tp_base.specs.declared.calls.Call.TheVariants.{Attach, Detach, Take, Return, MayRunLong, Disassociate, OnReturn, Finish}
 use Rattle.tp_base.specs.Ranges.{IsCallInRange}
 use Rattle.tp_model.specs.World.{World}
@@ -35,8 +35,8 @@ use Timers.{set_timer_safe, set_timer_forget, set_timer_ranged, set_timer_ex_saf
 use Kernels.{create_event_safe, create_event_forget, create_event_ranged, create_semaphore_safe, create_semaphore_forget, create_semaphore_ranged, create_lock_safe, create_lock_forget, create_lock_ranged}
 use Kernels.{set_event_safe, set_event_forget, set_event_ranged, reset_event_safe, reset_event_forget, reset_event_ranged, release_semaphore_safe, release_semaphore_forget, release_semaphore_ranged, release_lock_safe, release_lock_forget, release_lock_ranged}
 use WaitObjects.{set_wait_safe, set_wait_forget, set_wait_ranged}
-use Io.{start_io_safe, start_io_forget, start_io_ranged, issue_io_safe, issue_io_forget, issue_io_ranged, cancel_io_safe, cancel_io_forget, cancel_io_ranged, complete_io_safe, complete_io_forget, complete_io_ranged}
-use Waits.{begin_wait_safe, begin_wait_forget, begin_wait_ranged, begin_acquire_safe, begin_acquire_forget, begin_acquire_ranged, end_safe, end_forget, end_ranged}
+use Io.{start_io_safe, start_io_forget, start_io_ranged, issue_io_safe, issue_io_forget, issue_io_ranged, cancel_io_safe, cancel_io_forget, cancel_io_ranged, complete_io_safe, complete_io_forget, complete_io_ranged, complete_next_safe, complete_next_forget, complete_next_ranged}
+use Waits.{begin_wait_safe, begin_wait_forget, begin_wait_ranged, begin_acquire_safe, begin_acquire_forget, begin_acquire_ranged, try_acquire_safe, try_acquire_forget, try_acquire_ranged, end_safe, end_forget, end_ranged}
 use Clients.{finish_safe, finish_forget, finish_ranged}
 
 -- the plan of each call asks for a change that is allowed, made by the actor
@@ -61,9 +61,11 @@ plan_safe next_number room w who (StartIo object) s = start_io_safe next_number 
 plan_safe next_number room w who (IssueIo object) s = issue_io_safe w who object next_number s
 plan_safe next_number room w who (CancelIo object) s = cancel_io_safe w who object next_number s
 plan_safe next_number room w who (CompleteIo callback error bytes) s = complete_io_safe w who callback error bytes next_number
+plan_safe next_number room w who (CompleteNext object error bytes) s = complete_next_safe w who object error bytes next_number s
 plan_safe next_number room w who (BeginWait kind object cancel) s = begin_wait_safe next_number w who kind object cancel
 plan_safe next_number room w who End s = end_safe next_number room w who s
 plan_safe next_number room w who (BeginAcquire kernel) s = begin_acquire_safe next_number w who kernel
+plan_safe next_number room w who (TryAcquire kernel) s = try_acquire_safe next_number w who kernel
 plan_safe next_number room w who (CreateEvent manual signalled) s = create_event_safe next_number w who manual signalled
 plan_safe next_number room w who (CreateSemaphore initial most) s = create_semaphore_safe next_number w who initial most
 plan_safe next_number room w who (CreateLock lock owned) s = create_lock_safe next_number w who lock owned
@@ -102,9 +104,11 @@ plan_forget next_number room w who (StartIo object) s = start_io_forget next_num
 plan_forget next_number room w who (IssueIo object) s = issue_io_forget w who object
 plan_forget next_number room w who (CancelIo object) s = cancel_io_forget w who object
 plan_forget next_number room w who (CompleteIo callback error bytes) s = complete_io_forget w who callback error bytes next_number s
+plan_forget next_number room w who (CompleteNext object error bytes) s = complete_next_forget w who object error bytes
 plan_forget next_number room w who (BeginWait kind object cancel) s = begin_wait_forget next_number w who kind object cancel s
 plan_forget next_number room w who End s = end_forget next_number room w who s
 plan_forget next_number room w who (BeginAcquire kernel) s = begin_acquire_forget w who kernel
+plan_forget next_number room w who (TryAcquire kernel) s = try_acquire_forget w who kernel
 plan_forget next_number room w who (CreateEvent manual signalled) s = create_event_forget w who manual signalled
 plan_forget next_number room w who (CreateSemaphore initial most) s = create_semaphore_forget w who initial most
 plan_forget next_number room w who (CreateLock lock owned) s = create_lock_forget w who lock owned
@@ -144,9 +148,11 @@ module _ (next_number : ℕ) (w : World) (few : next_number + 65536 ≤ 2 ^ 64) 
   plan_ranged room who (IssueIo object) c = issue_io_ranged w who object g
   plan_ranged room who (CancelIo object) c = cancel_io_ranged w who object g
   plan_ranged room who (CompleteIo callback error bytes) c = complete_io_ranged w who callback error bytes g c
+  plan_ranged room who (CompleteNext object error bytes) c = complete_next_ranged w who object error bytes g c
   plan_ranged room who (BeginWait kind object cancel) c = begin_wait_ranged w who kind object cancel g
   plan_ranged room who End c = end_ranged next_number room w who s g
   plan_ranged room who (BeginAcquire kernel) c = begin_acquire_ranged w who kernel c
+  plan_ranged room who (TryAcquire kernel) c = try_acquire_ranged w who kernel c
   plan_ranged room who (CreateEvent manual signalled) c = create_event_ranged w who manual signalled g
   plan_ranged room who (CreateSemaphore initial most) c = create_semaphore_ranged w who initial most g c
   plan_ranged room who (CreateLock lock owned) c = create_lock_ranged w who lock owned g

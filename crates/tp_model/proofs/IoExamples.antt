@@ -15,7 +15,7 @@ use Rattle.tp_base.specs.declared.answers.Refusal.TheVariants as refusal
 use Rattle.tp_base.specs.declared.limits.Limits.{Limits}
 use Rattle.tp_model.specs.Calls.Objects.{create_plan, close_object_plan}
 use Rattle.tp_model.specs.Calls.Work.{submit_work_plan}
-use Rattle.tp_model.specs.Calls.Io.{start_io_plan, issue_io_plan, cancel_io_plan, complete_io_plan}
+use Rattle.tp_model.specs.Calls.Io.{start_io_plan, issue_io_plan, cancel_io_plan, complete_io_plan, complete_next_plan}
 use Rattle.tp_model.specs.Calls.Workers.{attach_plan, take_plan, return_plan}
 use Rattle.tp_model.specs.Calls.Waits.{begin_wait_plan}
 use Rattle.tp_model.specs.Calls.End.{end_plan}
@@ -371,3 +371,61 @@ unfolding plain made started issued crossed waits ended attached takes
 taken_after_wait law =
     (law.at_each (made ∷ started 1 ∷ started 2 ∷ issued 1 ∷ issued 2 ∷ crossed 1 2 ∷ []) [] (crossed 2 1 ∷ attached ∷ takes 1 8 ∷ []) waits ended (record { target = Object (record { 0 = 1 }); cancel = true; cleanup = 0 }) refl refl refl refl refl refl).none_later
     (crossed 2 1 ∷ attached ∷ []) [] (takes 1 8) (record { number = 1; object = record { 0 = 1 } }) refl refl
+
+-- ---- what a device completes next: the first operation that is issued, whoever says so
+
+a_device : play limits 65536
+    (((Client 1), (call.Create Io (record { 0 = 1 }) 0 plain))
+    ∷ ((Client 1), (call.CompleteNext (record { 0 = 1 }) 0 512))
+    ∷ ((Client 1), (call.StartIo (record { 0 = 1 })))
+    ∷ ((Client 1), (call.CompleteNext (record { 0 = 1 }) 0 512))
+    ∷ ((Client 1), (call.IssueIo (record { 0 = 1 })))
+    ∷ ((Client 1), (call.StartIo (record { 0 = 1 })))
+    ∷ ((Client 1), (call.IssueIo (record { 0 = 1 })))
+    ∷ ((Client 2), (call.CompleteNext (record { 0 = 1 }) 995 0))
+    ∷ ((Client 2), (call.CompleteNext (record { 0 = 1 }) 0 7))
+    ∷ ((Client 2), (call.CompleteNext (record { 0 = 1 }) 0 7))
+    ∷ ((Client 1), (call.CloseObject Io (record { 0 = 1 })))
+    ∷ ((Client 2), (call.CompleteNext (record { 0 = 1 }) 0 7))
+    ∷ ((Client 2), (call.CompleteNext (record { 0 = 2 }) 0 7))
+    ∷ ((Client 1), (call.Create Work (record { 0 = 1 }) 0 plain))
+    ∷ ((Client 2), (call.CompleteNext (record { 0 = 2 }) 0 7))
+    ∷ ((Worker 1), call.Attach)
+    ∷ ((Worker 1), call.Take) ∷ [])
+    ≡ outcome.Done (answer.Made 1)
+    ∷ outcome.Done (answer.Refused refusal.NoOperation)
+    ∷ outcome.Done (answer.Started 1)
+    ∷ outcome.Done (answer.Refused refusal.NoOperation)
+    ∷ outcome.Done (answer.Operation 1)
+    ∷ outcome.Done (answer.Started 2)
+    ∷ outcome.Done (answer.Operation 2)
+    ∷ outcome.Done (answer.Queued 1 1)
+    ∷ outcome.Done (answer.Queued 2 1)
+    ∷ outcome.Done (answer.Refused refusal.NoOperation)
+    ∷ outcome.Done (answer.Closed true)
+    ∷ outcome.Done (answer.Refused refusal.NoOperation)
+    ∷ outcome.Done (answer.Refused refusal.NoSuch)
+    ∷ outcome.Done (answer.Made 2)
+    ∷ outcome.Done (answer.Refused refusal.WrongKind)
+    ∷ outcome.Done (answer.Attached (record { 0 = 0 }))
+    ∷ outcome.Done (answer.Taken 1 (record { 0 = 1 }) (record { 0 = 1 }) 0 (result.Io 995 0)) ∷ []
+unfolding limits plain create_plan start_io_plan issue_io_plan complete_next_plan close_object_plan attach_plan take_plan
+a_device = refl
+
+-- which operation such a completion is of, its answer tells
+completed_next : ℕ → ℕ → Entry
+completed_next n bytes = record { who = Client 2; call = call.CompleteNext (record { 0 = 1 }) 0 bytes; answer = answer.Queued n 1 }
+
+-- a callback that is taken with other bytes than those of its completion
+next_with_other_bytes : AreOperated (started 1 ∷ issued 1 ∷ completed_next 1 8 ∷ takes 1 9 ∷ []) → ⊥
+unfolding started issued completed_next takes
+next_with_other_bytes law = no_way refl (law.ways 1)
+
+-- an operation that completes before it is issued, and one that completes twice
+next_unissued : AreOperated (started 1 ∷ completed_next 1 8 ∷ []) → ⊥
+unfolding started completed_next
+next_unissued law = no_way refl (law.ways 1)
+
+next_twice : AreOperated (started 1 ∷ issued 1 ∷ completed 1 8 ∷ completed_next 1 8 ∷ []) → ⊥
+unfolding started issued completed completed_next
+next_twice law = no_way refl (law.ways 1)

@@ -5,7 +5,7 @@ use Rattle.std.specs.List.{AllByRecursion}
 use Rattle.std.specs.Option.{option_map_or}
 use Rattle.tp_base.specs.declared.ids.Who.{Who}
 use Rattle.tp_base.specs.declared.plans.KernelChange.{KernelChange}
-use Rattle.tp_base.specs.declared.plans.KernelChange.TheVariants.{Set, Reset, Raise, Leave}
+use Rattle.tp_base.specs.declared.plans.KernelChange.TheVariants.{Set, Reset, Raise, Leave, Take}
 use Rattle.tp_base.specs.declared.rows.KernelState.{KernelState}
 use Rattle.tp_base.specs.declared.rows.KernelState.TheVariants.{Event, Semaphore, Mutex, Section}
 use Rattle.tp_base.specs.declared.rows.KernelRow.{KernelRow}
@@ -44,6 +44,12 @@ all_changed P f kernels kernel goes all = of_row (numbered kernels kernel) refl
 
 -- ---- ranges
 
+pub taken_ranged : (who : Who) (state : KernelState) → IsStateInRange state → IsStateInRange (taken_by who state)
+taken_ranged who (Event manual signalled) r = tt
+taken_ranged who (Semaphore count maximum) r = (omega (arith, r.0), r.1)
+taken_ranged who (Mutex owner takings) r = tt
+taken_ranged who (Section owner takings) r = tt
+
 pub state_ranged : (how : KernelChange) (state : KernelState) → Suits how state → IsStateInRange state → IsStateInRange (state_after how state)
 state_ranged Set (Event manual signalled) suits r = tt
 state_ranged Reset (Event manual signalled) suits r = tt
@@ -61,12 +67,7 @@ state_ranged (Raise more) (Mutex owner takings) suits r = r
 state_ranged (Raise more) (Section owner takings) suits r = r
 state_ranged Leave (Event manual signalled) suits r = r
 state_ranged Leave (Semaphore count maximum) suits r = r
-
-pub taken_ranged : (who : Who) (state : KernelState) → IsStateInRange state → IsStateInRange (taken_by who state)
-taken_ranged who (Event manual signalled) r = tt
-taken_ranged who (Semaphore count maximum) r = (omega (arith, r.0), r.1)
-taken_ranged who (Mutex owner takings) r = tt
-taken_ranged who (Section owner takings) r = tt
+state_ranged (Take who) state suits r = taken_ranged who state r
 
 pub taken_state_ranged : (state : KernelState) → IsStateInRange state → IsStateInRange (taken state)
 taken_state_ranged (Event manual signalled) r = tt

@@ -1,6 +1,6 @@
 -- Whether all is over, and what is left, are the same without the callbacks that are over.
-use Rattle.std.proofs.Common.{◌≡◌, ℕ, Bool, true, false, cond, not, ◌&&◌, ◌||◌, List, [], ◌∷◌, map, nat_lt, refl, sym, ap, ap₂, ◌∙◌, filter, find}
-use Rattle.std.specs.List.{list_all, list_any}
+use Rattle.std.proofs.Common.{◌≡◌, ℕ, false, not, ◌&&◌, ◌||◌, map, nat_lt, ap, ap₂, find}
+use Rattle.std.specs.List.{list_all}
 use Rattle.tp_base.specs.declared.ids.ObjectId.{ObjectId}
 use Rattle.tp_base.specs.declared.rows.CallbackRow.{CallbackRow}
 use Rattle.tp_base.specs.declared.rows.ClientRow.{ClientRow}

@@ -1,20 +1,19 @@
 -- The law Persistent: a worker that has run a persistent callback has its pool's mark until it leaves, and no other one has it.
 use Rattle.std.specs.List.{list_any}
 use Rattle.std.specs.Option.{option_map_or}
-use Rattle.std.proofs.Common.{◌≡◌, ◌≢◌, ◌⊎◌, inl, inr, ℕ, suc, zero, ◌+◌, ◌-◌, ◌≤◌, Bool, true, false, cond, not, ◌&&◌, ◌||◌, ◌==◌, List, [], ◌∷◌, ◌++◌, length, slice_get, find, Option, Some, None, refl, sym, ap, ap₂, ◌∙◌, subst, arith, append_assoc, eqb-true, eq-eqb}
+use Rattle.std.proofs.Common.{◌≡◌, ◌⊎◌, inl, inr, ℕ, suc, zero, ◌+◌, ◌-◌, ◌≤◌, Bool, true, false, not, ◌&&◌, ◌||◌, ◌==◌, List, [], ◌∷◌, ◌++◌, length, find, Option, Some, None, refl, sym, ap, ap₂, ◌∙◌, arith, eqb-true, eq-eqb}
 use Rattle.std.proofs.lemmas.Bool.{or_cases}
 use Rattle.std.proofs.lemmas.List.Folds.{list_any-append}
 use Rattle.tp_base.specs.Actors.{is_same_actor}
 use Rattle.tp_base.specs.declared.answers.Entry.{Entry}
 use Rattle.tp_base.specs.declared.ids.PoolId.{PoolId}
-use Rattle.tp_base.specs.declared.ids.Who.{Who}
 use Rattle.tp_base.specs.declared.ids.Who.TheVariants.{Worker}
 use Rattle.tp_base.specs.declared.limits.Limits.{Limits}
 use Rattle.tp_base.specs.declared.rows.CallbackRow.{CallbackRow}
 use Rattle.tp_base.specs.declared.rows.ObjectRow.{ObjectRow}
 use Rattle.tp_base.specs.declared.rows.WorkerRow.{WorkerRow}
 use Rattle.tp_model.specs.Conditions.{is_closed_pool}
-use Rattle.tp_model.specs.Counts.{has_number, has_persistent, is_persistent_in, is_pending_in, numbered}
+use Rattle.tp_model.specs.Counts.{has_number, has_persistent, is_persistent_in, numbered}
 use Rattle.tp_model.specs.Laws.Entries.{Creation, Run, Simple, closes_pool, completed_by, created_by, is_among, is_by, is_detached, queued_by, queued_new, run_by, simple_by}
 use Rattle.tp_model.specs.Laws.Persistent.{RunsPersistent, creates_persistent, detaches, is_simple_persistent, makes_object, makes_persistent, makes_simple}
 use Rattle.tp_model.specs.Support.Moves.{Amend, Attach, Cancel, Detach, Leads, Mark, Move, Operate, Return, Stay, Take, Takes, put, run_of}

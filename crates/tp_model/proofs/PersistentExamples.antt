@@ -1,19 +1,15 @@
 -- A trace with persistent callbacks, by computation alone; and histories that the law Persistent refuses.
 use Rattle.std.proofs.Common.{◌≡◌, ℕ, List, [], ◌∷◌, ◌++◌, refl, true, false}
-use Rattle.tp_base.specs.declared.answers.Answer.{Answer}
 use Rattle.tp_base.specs.declared.answers.Answer.TheVariants as answer
 use Rattle.tp_base.specs.declared.answers.Entry.{Entry}
 use Rattle.tp_base.specs.declared.answers.Look.TheVariants as look
-use Rattle.tp_base.specs.declared.answers.Outcome.{Outcome}
 use Rattle.tp_base.specs.declared.answers.Outcome.TheVariants as outcome
 use Rattle.tp_base.specs.declared.answers.SlotWord.TheVariants.{Unasked}
 use Rattle.tp_base.specs.declared.answers.TakeResult.TheVariants.{Plain}
-use Rattle.tp_base.specs.declared.calls.Call.{Call}
 use Rattle.tp_base.specs.declared.calls.Call.TheVariants as call
 use Rattle.tp_base.specs.declared.calls.Environ.{Environ}
 use Rattle.tp_base.specs.declared.calls.Kind.TheVariants.{Work}
 use Rattle.tp_base.specs.declared.calls.Priority.TheVariants.{Normal}
-use Rattle.tp_base.specs.declared.ids.Who.{Who}
 use Rattle.tp_base.specs.declared.ids.Who.TheVariants.{Client, Worker}
 use Rattle.tp_base.specs.declared.limits.Limits.{Limits}
 use Rattle.tp_model.specs.Calls.Objects.{create_plan}

@@ -9,9 +9,9 @@ use Rattle.std.specs.List.{range_with_len, flat_map, list_any, position, positio
 use Rattle.tp_base.specs.declared.answers.Entry.{Entry}
 use Rattle.tp_base.specs.declared.answers.Answer.{Answer}
 use Rattle.tp_base.specs.declared.answers.Answer.TheVariants as answer
-use Rattle.tp_base.specs.declared.answers.Answer.TheVariants.{Operation, Taken, Refused}
+use Rattle.tp_base.specs.declared.answers.Answer.TheVariants.{Queued, Operation, Taken, Refused}
 use Rattle.tp_base.specs.declared.calls.Call.{Call}
-use Rattle.tp_base.specs.declared.calls.Call.TheVariants.{CompleteIo}
+use Rattle.tp_base.specs.declared.calls.Call.TheVariants.{CompleteIo, CompleteNext}
 use Rattle.tp_base.specs.declared.rows.Status.{Status}
 use Rattle.tp_base.specs.declared.rows.Status.TheVariants.{Expected, Issued, Pending, Running, Returned, Cancelled}
 use Rattle.tp_base.specs.declared.plans.IoStep.{IoStep}
@@ -327,17 +327,21 @@ has_end n history e = any_more (λ x. list_any is_end (happening n x)) (λ x. is
     endless : (number : ℕ) (what : Happening) → is_end what ≡ false → list_any is_end (happens_to n (event number what)) ≡ false
     endless number what none = elim (number == n) as (λ b. list_any is_end (cond b (what ∷ []) []) ≡ false) [ true ↦ ap (λ b. b || false) none | false ↦ refl ]
 
-    of_call : (call : Call) → list_any is_end (happens_to n (completion call)) ≡ true → is_among n (completed_call call) ≡ true
-    of_call (CompleteIo callback error bytes) h =
-        elim (callback == n) as (λ b. list_any is_end (cond b (Completes error bytes ∷ []) []) ≡ true → (b || false) ≡ true) [ true ↦ λ _. refl | false ↦ λ none. none ] h
-    of_call _ h = absurd (false_true h)
+    of_number : (number error bytes : ℕ) → list_any is_end (happens_to n (event number (Completes error bytes))) ≡ true → is_among n (number ∷ []) ≡ true
+    of_number number error bytes h =
+        elim (number == n) as (λ b. list_any is_end (cond b (Completes error bytes ∷ []) []) ≡ true → (b || false) ≡ true) [ true ↦ λ _. refl | false ↦ λ none. none ] h
 
-    of_answer : (a : Answer) (call : Call) → list_any is_end (happens_to n (event_of a call)) ≡ true → is_among n (cond (is_refusal a) [] (completed_call call)) ≡ true
+    of_call : (call : Call) (a : Answer) → list_any is_end (happens_to n (completion call a)) ≡ true → is_among n (completed_call call a) ≡ true
+    of_call (CompleteIo callback error bytes) a h = of_number callback error bytes h
+    of_call (CompleteNext object error bytes) (Queued first count) h = of_number first error bytes h
+    of_call _ _ h = absurd (false_true h)
+
+    of_answer : (a : Answer) (call : Call) → list_any is_end (happens_to n (event_of a call)) ≡ true → is_among n (cond (is_refusal a) [] (completed_call call a)) ≡ true
     of_answer (Operation callback) call h = absurd (false_true (sym (endless callback Issues refl) ∙ h))
     of_answer (answer.Cancelled callback) call h = absurd (false_true (sym (endless callback GivesUp refl) ∙ h))
     of_answer (Taken callback object routine context result) call h = absurd (false_true (sym (endless callback (Runs result) refl) ∙ h))
     of_answer (Refused refusal) call h = absurd (false_true h)
-    of_answer _ call h = of_call call h
+    of_answer a call h = of_call call a h
 
     ends : (x : Entry) → list_any is_end (happening n x) ≡ true → is_among n (completed_by x) ≡ true
     ends x h =

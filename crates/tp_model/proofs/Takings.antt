@@ -1,5 +1,5 @@
 -- How often a lock is taken: no change raises that by more than one.
-use Rattle.std.proofs.Common.{suc, zero, find, length, ◌∷◌, [], ◌≡◌, true, false, cond, ℕ, ◌+◌, ◌-◌, ◌≤◌, slice_get, List, Option, None, Some, refl, arith}
+use Rattle.std.proofs.Common.{suc, zero, find, length, ◌∷◌, [], ◌≡◌, true, false, cond, sym, ℕ, ◌+◌, ◌-◌, ◌≤◌, slice_get, List, Option, None, Some, refl, arith}
 use Rattle.std.specs.Prelude.{ℤ}
 use Rattle.std.specs.List.{AllByRecursion}
 use Rattle.tp_base.specs.declared.ids.Who.{Who}
@@ -8,7 +8,7 @@ use Rattle.tp_base.specs.declared.rows.Slots.{Slots}
 use Rattle.tp_base.specs.declared.ids.KernelId.{KernelId}
 use Rattle.tp_base.specs.declared.ids.ObjectId.{ObjectId}
 use Rattle.tp_base.specs.declared.answers.TakeResult.TheVariants.{WaitObject0, WaitTimeout}
-use Rattle.tp_base.specs.declared.plans.KernelChange.TheVariants.{Set, Raise, Leave}
+use Rattle.tp_base.specs.declared.plans.KernelChange.TheVariants.{Set, Raise, Leave, Take}
 use Rattle.tp_base.specs.declared.plans.Trigger.{Trigger}
 use Rattle.tp_base.specs.declared.plans.Trigger.TheVariants.{SetTimer, Advance, SetWait, SetEvent, ReleaseSemaphore}
 use Rattle.tp_base.specs.declared.rows.Arming.{Arming}
@@ -19,7 +19,7 @@ use Rattle.tp_model.specs.Kernels.{is_one_that, kernel_changed}
 use Rattle.tp_model.specs.Sources.{Sources, Firing, sources_of, jobless, job, with_state, disarmed, release_to, release_first, release_times, signal, arm, firing}
 use Rattle.tp_model.specs.Actions.{slots_of, returning}
 use Rattle.tp_model.proofs.Firing.{with_arming}
-use Rattle.tp_model.proofs.Performing.{performed_keeps}
+use Rattle.tp_model.proofs.Performing.{performed_keeps, takes}
 use Rattle.tp_model.proofs.Kernels.{all_changed}
 use Rattle.tp_base.specs.declared.plans.WaitEnd.{WaitEnd}
 use Rattle.tp_base.specs.declared.plans.WaitEnd.TheVariants.{Free, Exhausted, Stalled}
@@ -42,7 +42,7 @@ use Rattle.tp_model.specs.Changes.{changed, change_pool, release_object, kernels
 use Rattle.tp_model.specs.Support.Allowed.{IsAllowed}
 use Rattle.tp_model.specs.Support.Ranged.{AreTakenAtMost}
 use Rattle.tp_model.proofs.Lists.{all_along, all_append, all_get, all_set}
-use Rattle.tp_model.proofs.Refusals.{numbered_some}
+use Rattle.tp_model.proofs.Refusals.{numbered_some, false_true}
 
 abbrev AreAtMost : ℕ → List KernelRow → Type 0
 AreAtMost most kernels = AllByRecursion (λ (k : KernelRow). takings_of k.state ≤ most) kernels
@@ -54,6 +54,7 @@ taken_once_more who (state.Mutex owner takings) = omega arith
 taken_once_more who (state.Section owner takings) = omega arith
 
 taken_no_more : (how : KernelChange) (s : KernelState) → takings_of (state_after how s) ≤ takings_of s + 1
+taken_no_more (Take who) s = taken_once_more who s
 taken_no_more how s = grind arith
 
 most_raised : (most higher : ℕ) → most ≤ higher → (kernels : List KernelRow) → AreAtMost most kernels → AreAtMost higher kernels
@@ -79,9 +80,10 @@ wait_left most w who Free (Some b) all = target b.target
     target (Group group) = most_raised most (most + 1) (omega arith) w.kernels all
     target (Kernel kernel) = row_changed (taken_by who) (taken_once_more who) most w.kernels kernel.0 (numbered w.kernels kernel.0) refl all
 
--- nothing but the end of a wait takes a lock
-taken_less : (how : KernelChange) (s : KernelState) → takings_of (state_after how s) ≤ takings_of s
-taken_less how s = grind arith
+-- nothing but an actor takes a lock
+taken_less : (how : KernelChange) → takes how ≡ false → (s : KernelState) → takings_of (state_after how s) ≤ takings_of s
+taken_less (Take who) e s = absurd (false_true (sym e))
+taken_less how e s = grind arith
 
 no_lock_taken : (s : KernelState) → takings_of (taken_state s) ≤ takings_of s
 no_lock_taken s = grind arith
@@ -102,9 +104,9 @@ release_keeps most (suc n) kernel f all =
     of_first None = all
     of_first (Some a) = state_keeps most taken_state no_lock_taken f.sources.kernels kernel all
 
-signal_keeps : (most : ℕ) (how : KernelChange) (kernel : ℕ) (f : Firing) → AreAtMost most f.sources.kernels → AreAtMost most (signal how kernel f).sources.kernels
-signal_keeps most how kernel f all =
-    release_keeps most (length f.sources.armings) kernel (record f { sources = with_state (state_after how) kernel f.sources }) (state_keeps most (state_after how) (taken_less how) f.sources.kernels kernel all)
+signal_keeps : (most : ℕ) (how : KernelChange) → takes how ≡ false → (kernel : ℕ) (f : Firing) → AreAtMost most f.sources.kernels → AreAtMost most (signal how kernel f).sources.kernels
+signal_keeps most how none kernel f all =
+    release_keeps most (length f.sources.armings) kernel (record f { sources = with_state (state_after how) kernel f.sources }) (state_keeps most (state_after how) (taken_less how none) f.sources.kernels kernel all)
 
 arm_keeps : (most : ℕ) (object : ObjectId) (kernel : KernelId) (timeout : Option ℤ) (s : Sources) → AreAtMost most s.kernels → AreAtMost most (arm object kernel timeout s).sources.kernels
 arm_keeps most object kernel timeout s all =
@@ -119,12 +121,12 @@ firing_keeps most (SetTimer object due period window) s all = all
 firing_keeps most (Advance now) s all = all
 firing_keeps most (SetWait object None timeout) s all = all
 firing_keeps most (SetWait object (Some kernel) timeout) s all = arm_keeps most object kernel timeout (disarmed object s) all
-firing_keeps most (SetEvent kernel) s all = signal_keeps most Set kernel.0 (jobless s) all
-firing_keeps most (ReleaseSemaphore kernel count) s all = signal_keeps most (Raise count) kernel.0 (jobless s) all
+firing_keeps most (SetEvent kernel) s all = signal_keeps most Set refl kernel.0 (jobless s) all
+firing_keeps most (ReleaseSemaphore kernel count) s all = signal_keeps most (Raise count) refl kernel.0 (jobless s) all
 
 returning_keeps : (most : ℕ) (w : World) (words : ActionWords) (slots : Slots) → AreAtMost most w.kernels → AreAtMost most (returning w words slots).sources.kernels
 returning_keeps most w words slots all =
-    performed_keeps (λ f. AreAtMost most f.sources.kernels) (signal_keeps most) (λ kernel f h. state_keeps most (state_after Leave) (taken_less Leave) f.sources.kernels kernel h) words slots (jobless (sources_of w)) all
+    performed_keeps (λ f. AreAtMost most f.sources.kernels) (signal_keeps most) (λ kernel f h. state_keeps most (state_after Leave) (taken_less Leave refl) f.sources.kernels kernel h) words slots (jobless (sources_of w)) all
 
 pub taken_up_to : (most higher : ℕ) (w : World) → most ≤ higher → AreTakenAtMost most w → AreTakenAtMost higher w
 taken_up_to most higher w below all = most_raised most higher below w.kernels all

@@ -2,7 +2,7 @@
 use Rattle.std.proofs.Common.{◌≡◌, ℕ, ◌+◌, ◌≤◌, Bool, true, false, cond, ◌||◌, ◌==◌, List, [], ◌∷◌, ◌++◌, length, Option, Some, None, refl, sym, ap, ◌∙◌, subst, find, ◌⊎◌, inl, inr, arith, eqb-true, append-nil}
 use Rattle.std.proofs.lemmas.Grind.{flat_map-append}
 use Rattle.tp_base.specs.declared.calls.Call.{Call}
-use Rattle.tp_base.specs.declared.calls.Call.TheVariants.{CompleteIo}
+use Rattle.tp_base.specs.declared.calls.Call.TheVariants.{CompleteIo, CompleteNext}
 use Rattle.tp_base.specs.declared.answers.Answer.{Answer}
 use Rattle.tp_base.specs.declared.answers.Entry.{Entry}
 use Rattle.tp_base.specs.declared.rows.ObjectRow.{ObjectRow}
@@ -30,13 +30,14 @@ pub record IsTied (history : List Entry) (w : World) : Type 0 where
   pub objects : (group n : ℕ) → is_among n (objects_of group history) ≡ true → IsInGroup w.objects group n
   pub simples : (group n : ℕ) (c : CallbackRow) → is_among n (simples_of group history) ≡ true → find (has_number n) w.callbacks ≡ Some c → (c.object.0 ≡ 0) × (c.group.0 ≡ group)
 
+no_simple : (group : ℕ) (b : Bool) → is_for_group group (cond b None None) ≡ true → ⊥
+no_simple group true h = false_true h
+no_simple group false h = false_true h
+
 -- a SubmitSimple completes no operation
 pub simple_new : (group : ℕ) (call : Call) (a : Answer) → is_for_group group (cond (is_refusal a) None (simple_call call)) ≡ true → cond (is_complete_call call) [] (queued_by a) ≡ queued_by a
-simple_new group (CompleteIo callback error bytes) a e = absurd (none (is_refusal a) e)
-  where
-    none : (b : Bool) → is_for_group group (cond b None None) ≡ true → ⊥
-    none true h = false_true h
-    none false h = false_true h
+simple_new group (CompleteIo callback error bytes) a e = absurd (no_simple group (is_refusal a) e)
+simple_new group (CompleteNext object error bytes) a e = absurd (no_simple group (is_refusal a) e)
 simple_new group _ a e = refl
 
 -- a simple callback may be taken from where it is made

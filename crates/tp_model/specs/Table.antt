@@ -3,8 +3,8 @@ use Rattle.std.specs.Prelude.{ℕ, ◌+◌, length}
 use Rattle.tp_base.specs.declared.ids.Who.{Who}
 use Rattle.tp_base.specs.declared.calls.Call.{Call}
 use Rattle.tp_base.specs.declared.calls.Call.TheVariants.{CreatePool, ClosePool, SetMaximum, SetMinimum, CreateGroup, CloseGroup, BeginClose, Create, CloseObject, SubmitSimple, SubmitWork}
-use Rattle.tp_base.specs.declared.calls.Call.TheVariants.{SetTimer, SetTimerEx, IsTimerSet, Advance, SetWait, StartIo, IssueIo, CancelIo, CompleteIo}
-use Rattle.tp_base.specs.declared.calls.Call.TheVariants.{BeginWait, BeginAcquire, End, CreateEvent, CreateSemaphore, CreateLock, SetEvent, ResetEvent, ReleaseSemaphore, ReleaseLock}
+use Rattle.tp_base.specs.declared.calls.Call.TheVariants.{SetTimer, SetTimerEx, IsTimerSet, Advance, SetWait, StartIo, IssueIo, CancelIo, CompleteIo, CompleteNext}
+use Rattle.tp_base.specs.declared.calls.Call.TheVariants.{BeginWait, BeginAcquire, TryAcquire, End, CreateEvent, CreateSemaphore, CreateLock, SetEvent, ResetEvent, ReleaseSemaphore, ReleaseLock}
 use Rattle.tp_base.specs.declared.calls.Call.TheVariants.{Attach, Detach, Take, Return, MayRunLong, Disassociate, OnReturn, Finish}
 use Rattle.tp_base.specs.declared.plans.Plan.{Plan}
 use Rattle.tp_model.specs.World.{World}
@@ -17,8 +17,8 @@ use Rattle.tp_model.specs.Calls.Workers.{attach_plan, detach_plan, take_plan, re
 use Rattle.tp_model.specs.Calls.InCallback.{may_run_long_plan, disassociate_plan, on_return_plan}
 use Rattle.tp_model.specs.Calls.Timers.{set_timer_plan, set_timer_ex_plan, is_timer_set_plan, advance_plan}
 use Rattle.tp_model.specs.Calls.WaitObjects.{set_wait_plan}
-use Rattle.tp_model.specs.Calls.Io.{start_io_plan, issue_io_plan, cancel_io_plan, complete_io_plan}
-use Rattle.tp_model.specs.Calls.Waits.{begin_wait_plan, begin_acquire_plan}
+use Rattle.tp_model.specs.Calls.Io.{start_io_plan, issue_io_plan, cancel_io_plan, complete_io_plan, complete_next_plan}
+use Rattle.tp_model.specs.Calls.Waits.{begin_wait_plan, begin_acquire_plan, try_acquire_plan}
 use Rattle.tp_model.specs.Calls.End.{end_plan}
 use Rattle.tp_model.specs.Calls.Kernels.{create_event_plan, create_semaphore_plan, create_lock_plan, set_event_plan, reset_event_plan, release_semaphore_plan, release_lock_plan}
 use Rattle.tp_model.specs.Calls.Clients.{finish_plan}
@@ -45,8 +45,10 @@ plan_at w next_number room who (StartIo object) = start_io_plan w next_number wh
 plan_at w next_number room who (IssueIo object) = issue_io_plan w who object
 plan_at w next_number room who (CancelIo object) = cancel_io_plan w who object
 plan_at w next_number room who (CompleteIo callback error bytes) = complete_io_plan w who callback error bytes
+plan_at w next_number room who (CompleteNext object error bytes) = complete_next_plan w who object error bytes
 plan_at w next_number room who (BeginWait kind object cancel) = begin_wait_plan w who kind object cancel
 plan_at w next_number room who (BeginAcquire kernel) = begin_acquire_plan w who kernel
+plan_at w next_number room who (TryAcquire kernel) = try_acquire_plan w who kernel
 plan_at w next_number room who End = end_plan w room who
 plan_at w next_number room who (CreateEvent manual signalled) = create_event_plan w who manual signalled
 plan_at w next_number room who (CreateSemaphore initial maximum) = create_semaphore_plan w who initial maximum

@@ -1,14 +1,15 @@
 -- The facts of calls on I/O objects.
-use Rattle.std.proofs.Common.{◌≡◌, ℕ, ◌+◌, ◌<◌, ◌^◌, ◌&&◌, ◌==◌, ◌∙◌, true, false, cond, length, List, [], ◌∷◌, ◌++◌, Option, Some, None, is_none, refl, sym, ap, subst, find, filter, eqb-true, arith}
+use Rattle.std.proofs.Common.{◌≡◌, ℕ, ◌+◌, ◌<◌, ◌^◌, ◌&&◌, ◌||◌, ◌==◌, ◌∙◌, Bool, not, true, false, cond, length, List, [], ◌∷◌, ◌++◌, Option, Some, None, is_none, refl, sym, ap, subst, find, filter, eqb-true, arith}
 use Rattle.std.specs.Option.{option_map_or}
 use Rattle.tp_base.specs.declared.ids.Who.{Who}
 use Rattle.tp_base.specs.declared.ids.ObjectId.{ObjectId}
 use Rattle.tp_base.specs.declared.calls.Kind.TheVariants.{Wait, Io}
 use Rattle.tp_base.specs.declared.calls.Call.{Call}
-use Rattle.tp_base.specs.declared.calls.Call.TheVariants.{StartIo, IssueIo, CancelIo, CompleteIo}
+use Rattle.tp_base.specs.declared.calls.Call.TheVariants.{StartIo, IssueIo, CancelIo, CompleteIo, CompleteNext}
 use Rattle.tp_base.specs.declared.answers.Answer.{Answer}
 use Rattle.tp_base.specs.declared.answers.Answer.TheVariants as answer
-use Rattle.tp_base.specs.declared.answers.Refusal.TheVariants.{NotStarted, NoOperation}
+use Rattle.tp_base.specs.declared.answers.Refusal.{Refusal}
+use Rattle.tp_base.specs.declared.answers.Refusal.TheVariants.{NoSuch, WrongKind, Released, NotRunning, InWait, NotStarted, NoOperation}
 use Rattle.tp_base.specs.declared.plans.IoStep.{IoStep}
 use Rattle.tp_base.specs.declared.plans.IoStep.TheVariants.{Issue, GiveUp}
 use Rattle.tp_base.specs.declared.plans.Change.TheVariants as change
@@ -20,10 +21,10 @@ use Rattle.tp_base.specs.declared.rows.ObjectRow.{ObjectRow}
 use Rattle.tp_base.specs.declared.rows.CallbackRow.{CallbackRow}
 use Rattle.tp_base.specs.Ranges.{IsCallInRange}
 use Rattle.tp_model.specs.World.{World}
-use Rattle.tp_model.specs.Counts.{numbered, has_number, is_expected, is_issued, callback_of}
-use Rattle.tp_model.specs.Conditions.{is_finished, is_released, is_object_of, is_same_kind}
+use Rattle.tp_model.specs.Counts.{numbered, has_number, is_expected, is_issued, is_live, callback_of}
+use Rattle.tp_model.specs.Conditions.{is_actor, is_finished, is_in_wait, is_object, is_released, is_object_of, is_same_kind, is_without_callback}
 use Rattle.tp_model.specs.Refusing.{first_refusal, unless_refused, actor_refusals, object_refusals}
-use Rattle.tp_model.specs.Calls.Io.{start_io_refusals, start_io, start_io_plan, is_expected_of, first_expected, expected_refusals, operate, operate_first, issue_io_plan, cancel_io_plan, issued_row, issued_of, complete_io_refusals, complete_io, complete_io_plan}
+use Rattle.tp_model.specs.Calls.Io.{start_io_refusals, start_io, start_io_plan, is_expected_of, first_expected, expected_refusals, operate, operate_first, issue_io_plan, cancel_io_plan, issued_row, issued_of, complete_io_refusals, complete_io, complete_io_plan, is_issued_of, first_issued, complete_next_refusals, complete_next_plan}
 use Rattle.tp_model.specs.Laws.Entries.{event, Completes}
 use Rattle.tp_model.specs.Support.Told.{silent, nothing}
 use Rattle.tp_model.specs.Support.Sound.{IsSound, IsRising}
@@ -179,6 +180,10 @@ under_way w callback c is = of_row (callback_of w callback) refl is
           | false ↦ λ _ f. absurd cc
         ] refl e
 
+unissued : (s : Status) → is_live s ≡ false → is_issued s ≡ false
+unissued Issued e = absurd (false_true (sym e))
+unissued _ e = refl
+
 -- what lives of the callbacks has the same operations under way
 issued_forget : (low next_number callback : ℕ) (cs : List CallbackRow) → IsRising low next_number cs → issued_row (find (has_number callback) (filter lives cs)) ≡ issued_row (find (has_number callback) cs)
 issued_forget low next_number callback [] r = refl
@@ -195,10 +200,6 @@ issued_forget low next_number callback (c ∷ cs) r =
         | false ↦ λ _. refl
       ] refl
     ] refl
-  where
-    unissued : (s : Status) → lives (record c { status = s }) ≡ false → is_issued s ≡ false
-    unissued Issued e = absurd (false_true (sym e))
-    unissued _ e = refl
 
 module _ (w : World) (who : Who) (callback error bytes : ℕ) where
   pub complete_io_safe : (next_number : ℕ) → IsSafe next_number w who (CompleteIo callback error bytes) (complete_io_plan w who callback error bytes)
@@ -231,4 +232,53 @@ module _ (w : World) (who : Who) (callback error bytes : ℕ) where
       completes None is = tt
       completes (Some d) is =
           let r : IsCallbackInRange d = find_all IsCallbackInRange (has_number callback) d w.callbacks g.rows.callbacks (under_way w callback d is).found in
+          ((r.number, omega arith), (c.1, c.2))
+
+-- ---- CompleteNext
+
+first_under_way : (next_number : ℕ) (w : World) (object : ℕ) (c : CallbackRow) → IsSound next_number w → first_issued w object ≡ Some c → IsUnderWay w c.number c
+first_under_way next_number w object c s is =
+    record {
+      found = find_numbered (is_issued_of object) 1 next_number w.callbacks c s.numbers is;
+      status = issued_is c.status (both (is_issued c.status) (c.object.0 == object) (find_passes (is_issued_of object) c w.callbacks is)).0;
+    }
+
+over_not_issued : (object : ℕ) (c : CallbackRow) → lives c ≡ false → is_issued_of object c ≡ false
+over_not_issued object c dead = ap (λ b. b && (c.object.0 == object)) (unissued c.status dead)
+
+module _ (w : World) (who : Who) (object : ObjectId) (error bytes : ℕ) where
+  pub complete_next_safe : (next_number : ℕ) → IsSound next_number w → IsSafe next_number w who (CompleteNext object error bytes) (complete_next_plan w who object error bytes)
+  unfolding complete_next_plan
+  complete_next_safe next_number s = safe_unless next_number w who (CompleteNext object error bytes) (complete_next_refusals w who object.0) _ (λ _. completes (first_issued w object.0) refl)
+    where
+      completes : (row : Option CallbackRow) → first_issued w object.0 ≡ row → IsSafe next_number w who (CompleteNext object error bytes) (complete_io error bytes row)
+      completes None is = tt
+      completes (Some c) is =
+          let of : IsUnderWay w c.number c = first_under_way next_number w object.0 c s is in
+          record { allowed = record { found = of.found; status = of.status }; made_by = tt; accepted = refl; tells = refl }
+
+  pub complete_next_forget : complete_next_plan (forget w) who object error bytes ≡ complete_next_plan w who object error bytes
+  unfolding complete_next_plan
+  complete_next_forget =
+      ap (λ c. unless_refused (first_refusal (next_refusals c)) (complete_io error bytes c))
+      (find_filter (is_issued_of object.0) lives (over_not_issued object.0) w.callbacks)
+    where
+      next_refusals : Option CallbackRow → List (Bool × Refusal)
+      next_refusals c =
+          (not (is_actor w who) || not (is_object w object.0), NoSuch)
+          ∷ (not (is_object_of w Io object.0), WrongKind)
+          ∷ (is_finished w who, Released)
+          ∷ (is_without_callback w who, NotRunning)
+          ∷ (is_in_wait w who, InWait)
+          ∷ (is_none c, NoOperation)
+          ∷ []
+
+  pub complete_next_ranged : IsRanged w → IsCallInRange (CompleteNext object error bytes) → IsPlanInRange (complete_next_plan w who object error bytes)
+  unfolding complete_next_plan
+  complete_next_ranged g c = ranged_unless (complete_next_refusals w who object.0) _ _ (completes (first_issued w object.0) refl)
+    where
+      completes : (row : Option CallbackRow) → first_issued w object.0 ≡ row → IsPlanInRange (complete_io error bytes row)
+      completes None is = tt
+      completes (Some d) is =
+          let r : IsCallbackInRange d = find_all IsCallbackInRange (is_issued_of object.0) d w.callbacks g.rows.callbacks is in
           ((r.number, omega arith), (c.1, c.2))

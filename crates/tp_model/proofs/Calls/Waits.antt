@@ -7,12 +7,13 @@ use Rattle.tp_base.specs.declared.rows.WorkerRow.{WorkerRow}
 use Rattle.tp_base.specs.declared.ids.KernelId.{KernelId}
 use Rattle.tp_base.specs.declared.ids.ObjectId.{ObjectId}
 use Rattle.tp_base.specs.declared.calls.Kind.{Kind}
-use Rattle.tp_base.specs.declared.calls.Call.TheVariants.{BeginWait, BeginAcquire, End}
+use Rattle.tp_base.specs.declared.calls.Call.TheVariants.{BeginWait, BeginAcquire, TryAcquire, End}
 use Rattle.tp_base.specs.declared.answers.Refusal.{Refusal}
 use Rattle.tp_base.specs.declared.answers.Answer.TheVariants as answer
 use Rattle.tp_base.specs.declared.answers.Look.TheVariants as look
 use Rattle.tp_base.specs.declared.plans.Busy.{Busy}
 use Rattle.tp_base.specs.declared.plans.Change.TheVariants as change
+use Rattle.tp_base.specs.declared.plans.KernelChange.TheVariants.{Take}
 use Rattle.tp_base.specs.declared.plans.Plan.TheVariants as plan
 use Rattle.tp_base.specs.declared.rows.CallbackRow.{CallbackRow}
 use Rattle.tp_base.specs.declared.plans.WaitEnd.TheVariants as how
@@ -29,7 +30,7 @@ use Rattle.tp_model.specs.Counts.{has_number, attached, callback_of, is_pending,
 use Rattle.tp_base.specs.Actors.{is_same_actor}
 use Rattle.tp_model.specs.Conditions.{is_actor, is_finished, is_object, is_released, is_associated, is_in_wait, is_object_of, is_without_callback, runs_callback}
 use Rattle.tp_model.specs.Refusing.{first_refusal, unless_refused}
-use Rattle.tp_model.specs.Calls.Waits.{begin_wait_refusals, begin_wait_plan, begin_acquire_refusals, begin_acquire_plan, end_for, end_held, end_wait, holds_starved, count_covered, count_cancelled_by, is_starved, end_notices}
+use Rattle.tp_model.specs.Calls.Waits.{begin_wait_refusals, begin_wait_plan, begin_acquire_refusals, begin_acquire_plan, try_acquire_plan, end_for, end_held, end_wait, holds_starved, count_covered, count_cancelled_by, is_starved, end_notices}
 use Rattle.tp_model.specs.Calls.End.{end_plan, end_refusals, end_unless_stalled}
 use Rattle.tp_model.specs.Stalled.{is_client_stuck, is_look, lacks_room_to_run, is_pool_stuck, is_stalled, is_worker_stuck, waits_on}
 use Rattle.tp_model.specs.Waits.{wait_of, held, is_outstanding_for, is_cancelled_by, cancelled, cancel_where, is_covered_by, covered_of, is_held, is_group_target, is_of, is_held_for}
@@ -42,6 +43,7 @@ use Rattle.tp_model.specs.Support.Ranged.{IsTargetInRange, IsCallbackInRange, Is
 use Rattle.tp_model.proofs.Lists.{find_all, filter_filter, filter_agree, length_filter_le, find_passes, all_get, all_agree}
 use Rattle.tp_model.proofs.Refusals.{neither, not_false, false_true, numbered_some, both}
 use Rattle.tp_model.proofs.Callbacks.{over_not_pending}
+use Rattle.tp_model.proofs.Kernels.{Stands, that_stands}
 use Rattle.tp_model.proofs.Cancelling.{cancelled_if}
 use Rattle.tp_model.proofs.Forgetting.{over_not_cancelled, over_not_covered, covered_forget, busy_forget, over_forget, over_not_outstanding, pending_forget, running_forget, takeable_forget}
 use Rattle.tp_model.proofs.Allowed.{safe_unless}
@@ -141,6 +143,31 @@ begin_acquire_forget w who kernel = refl
 pub begin_acquire_ranged : (w : World) (who : Who) (kernel : KernelId) → IsCallInRange (BeginAcquire kernel) → IsPlanInRange (begin_acquire_plan w who kernel)
 unfolding begin_acquire_plan
 begin_acquire_ranged w who kernel c = ranged_unless (begin_acquire_refusals w who kernel.0) _ _ (tt, c)
+
+-- ---- TryAcquire
+
+pub try_acquire_safe : (next_number : ℕ) (w : World) (who : Who) (kernel : KernelId) → IsSafe next_number w who (TryAcquire kernel) (try_acquire_plan w who kernel)
+unfolding try_acquire_plan
+try_acquire_safe next_number w who kernel =
+    safe_unless next_number w who (TryAcquire kernel) (begin_acquire_refusals w who kernel.0) _ (λ _. tries (is_kernel_that (may_take who) w kernel.0) refl)
+  where
+    tries : (b : Bool) → is_kernel_that (may_take who) w kernel.0 ≡ b → IsSafe next_number w who (TryAcquire kernel) (cond b (plan.Does (answer.Flag true) (change.ChangeKernel kernel (Take who))) (plan.Does (answer.Flag false) change.Keep))
+    tries true may =
+        let there : Stands (may_take who) w kernel.0 = that_stands (may_take who) w kernel.0 may in
+        record { allowed = record { row = there.row; stands = there.stands; suits = there.passes }; made_by = tt; accepted = refl; tells = refl }
+    tries false may = record { allowed = tt; made_by = tt; accepted = refl; tells = refl }
+
+pub try_acquire_forget : (w : World) (who : Who) (kernel : KernelId) → try_acquire_plan (forget w) who kernel ≡ try_acquire_plan w who kernel
+unfolding try_acquire_plan
+try_acquire_forget w who kernel = refl
+
+pub try_acquire_ranged : (w : World) (who : Who) (kernel : KernelId) → IsCallInRange (TryAcquire kernel) → IsPlanInRange (try_acquire_plan w who kernel)
+unfolding try_acquire_plan
+try_acquire_ranged w who kernel c = ranged_unless (begin_acquire_refusals w who kernel.0) _ _ (tries (is_kernel_that (may_take who) w kernel.0))
+  where
+    tries : (b : Bool) → IsPlanInRange (cond b (plan.Does (answer.Flag true) (change.ChangeKernel kernel (Take who))) (plan.Does (answer.Flag false) change.Keep))
+    tries true = (tt, tt)
+    tries false = (tt, tt)
 
 -- ---- End
 

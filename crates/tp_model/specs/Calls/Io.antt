@@ -1,11 +1,12 @@
--- Calls on I/O objects: StartThreadpoolIo and CancelThreadpoolIo; an operation is issued, and the system completes it.
-use Rattle.std.specs.Prelude.{ℕ, Bool, ◌&&◌, ◌==◌, List, [], ◌∷◌, ◌++◌, is_none, if◌then◌else◌, Option, None, Some}
+-- Calls on I/O objects: StartThreadpoolIo and CancelThreadpoolIo; an operation is issued, and the system completes it, or
+-- CancelIoEx does.
+use Rattle.std.specs.Prelude.{ℕ, Bool, not, ◌&&◌, ◌||◌, ◌==◌, List, [], ◌∷◌, ◌++◌, is_none, if◌then◌else◌, Option, None, Some}
 use Rattle.std.specs.List.{find}
 use Rattle.tp_base.specs.declared.ids.Who.{Who}
 use Rattle.tp_base.specs.declared.ids.ObjectId.{ObjectId}
 use Rattle.tp_base.specs.declared.calls.Kind.TheVariants.{Io}
 use Rattle.tp_base.specs.declared.answers.Refusal.{Refusal}
-use Rattle.tp_base.specs.declared.answers.Refusal.TheVariants.{NoSuch, NotStarted, NoOperation, CallbackLimit}
+use Rattle.tp_base.specs.declared.answers.Refusal.TheVariants.{NoSuch, WrongKind, Released, NotRunning, InWait, NotStarted, NoOperation, CallbackLimit}
 use Rattle.tp_base.specs.declared.answers.TakeResult.TheVariants.{Plain}
 use Rattle.tp_base.specs.declared.answers.Answer.{Answer}
 use Rattle.tp_base.specs.declared.answers.Answer.TheVariants as answer
@@ -19,7 +20,7 @@ use Rattle.tp_base.specs.declared.rows.ObjectRow.{ObjectRow}
 use Rattle.tp_base.specs.declared.rows.CallbackRow.{CallbackRow}
 use Rattle.tp_model.specs.World.{World}
 use Rattle.tp_model.specs.Counts.{numbered, callback_of, is_expected, is_issued}
-use Rattle.tp_model.specs.Conditions.{lacks_slots_for}
+use Rattle.tp_model.specs.Conditions.{is_actor, is_finished, is_without_callback, is_in_wait, is_object, is_object_of, lacks_slots_for}
 use Rattle.tp_model.specs.Sources.{new_callback}
 use Rattle.tp_model.specs.Refusing.{first_refusal, unless_refused, actor_refusals, object_refusals}
 
@@ -86,3 +87,26 @@ complete_io error bytes (Some c) = Does (answer.Queued c.number 1) (change.Opera
 unfoldable pub complete_io_plan : World → Who → ℕ → ℕ → ℕ → Plan
 complete_io_plan w who callback error bytes =
     unless_refused (first_refusal (complete_io_refusals w who callback)) (complete_io error bytes (issued_of w callback))
+
+-- ---- CompleteNext: the same of the object's first operation that is under way, whether the object is released or not
+
+abbrev pub is_issued_of : ℕ → CallbackRow → Bool
+is_issued_of object c = is_issued c.status && (c.object.0 == object)
+
+-- the one of least number
+abbrev pub first_issued : World → ℕ → Option CallbackRow
+first_issued w object = find (is_issued_of object) w.callbacks
+
+abbrev pub complete_next_refusals : World → Who → ℕ → List (Bool × Refusal)
+complete_next_refusals w who object =
+    (not (is_actor w who) || not (is_object w object), NoSuch)
+    ∷ (not (is_object_of w Io object), WrongKind)
+    ∷ (is_finished w who, Released)
+    ∷ (is_without_callback w who, NotRunning)
+    ∷ (is_in_wait w who, InWait)
+    ∷ (is_none (first_issued w object), NoOperation)
+    ∷ []
+
+unfoldable pub complete_next_plan : World → Who → ObjectId → ℕ → ℕ → Plan
+complete_next_plan w who object error bytes =
+    unless_refused (first_refusal (complete_next_refusals w who object.0)) (complete_io error bytes (first_issued w object.0))

@@ -1,7 +1,7 @@
 -- Waits for callbacks: WaitForThreadpoolWorkCallbacks and its like for the other kinds; and for kernel objects:
 -- WaitForSingleObject and EnterCriticalSection. BeginWait and BeginAcquire are the entry of the function, and End its
 -- return, which also asks whether the machine is stalled.
-use Rattle.std.specs.Prelude.{ℕ, Bool, false, not, ◌||◌, ◌&&◌, ◌==◌, nat_lt, List, [], ◌∷◌, ◌++◌, length, if◌then◌else◌, Option, None, Some}
+use Rattle.std.specs.Prelude.{ℕ, Bool, true, false, not, ◌||◌, ◌&&◌, ◌==◌, nat_lt, List, [], ◌∷◌, ◌++◌, length, if◌then◌else◌, Option, None, Some}
 use Rattle.std.specs.List.{filter, list_any}
 use Rattle.std.specs.Option.{option_map_or}
 use Rattle.tp_base.specs.declared.ids.Who.{Who}
@@ -14,6 +14,7 @@ use Rattle.tp_base.specs.declared.answers.Answer.{Answer}
 use Rattle.tp_base.specs.declared.answers.Answer.TheVariants as answer
 use Rattle.tp_base.specs.declared.answers.Look.TheVariants as look
 use Rattle.tp_base.specs.declared.plans.Awaited.TheVariants as awaited
+use Rattle.tp_base.specs.declared.plans.KernelChange.TheVariants.{Take}
 use Rattle.tp_base.specs.declared.plans.WaitEnd.TheVariants.{Free, Exhausted}
 use Rattle.tp_base.specs.declared.plans.Plan.{Plan}
 use Rattle.tp_base.specs.declared.plans.Plan.TheVariants.{Refused, Looked, Does}
@@ -61,6 +62,18 @@ begin_acquire_refusals w who kernel =
 unfoldable pub begin_acquire_plan : World → Who → KernelId → Plan
 begin_acquire_plan w who kernel =
     unless_refused (first_refusal (begin_acquire_refusals w who kernel.0)) (Does answer.Done (change.BeginWait who (awaited.Kernel kernel) false))
+
+-- ---- TryAcquire: WaitForSingleObject with a time of 0, and TryEnterCriticalSection
+
+-- the kernel object is taken, if the actor may take it now
+abbrev pub try_acquire : World → Who → KernelId → Plan
+try_acquire w who kernel =
+    if is_kernel_that (may_take who) w kernel.0
+    then Does (answer.Flag true) (change.ChangeKernel kernel (Take who))
+    else Does (answer.Flag false) change.Keep
+
+unfoldable pub try_acquire_plan : World → Who → KernelId → Plan
+try_acquire_plan w who kernel = unless_refused (first_refusal (begin_acquire_refusals w who kernel.0)) (try_acquire w who kernel)
 
 -- ---- End, but for the machine being stalled
 

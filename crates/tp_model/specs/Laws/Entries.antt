@@ -11,7 +11,7 @@ use Rattle.tp_base.specs.declared.rows.WaitTarget.{WaitTarget}
 use Rattle.tp_base.specs.declared.rows.WaitTarget.TheVariants.{Object, Group}
 use Rattle.tp_base.specs.declared.calls.Call.{Call}
 use Rattle.tp_base.specs.declared.calls.Environ.{Environ}
-use Rattle.tp_base.specs.declared.calls.Call.TheVariants.{OnReturn, Return, SetMaximum, SetMinimum, BeginWait, BeginClose, End, Disassociate, Create, CloseObject, ClosePool, Detach, SubmitSimple, SetWait, CompleteIo}
+use Rattle.tp_base.specs.declared.calls.Call.TheVariants.{OnReturn, Return, SetMaximum, SetMinimum, BeginWait, BeginClose, End, Disassociate, Create, CloseObject, ClosePool, Detach, SubmitSimple, SetWait, CompleteIo, CompleteNext}
 use Rattle.tp_base.specs.declared.answers.ActionKind.{ActionKind}
 use Rattle.tp_base.specs.declared.plans.ActionWords.{ActionWords}
 use Rattle.tp_base.specs.declared.calls.Kind.{Kind}
@@ -54,15 +54,18 @@ started_by _ = []
 
 abbrev pub is_complete_call : Call → Bool
 is_complete_call (CompleteIo callback error bytes) = true
+is_complete_call (CompleteNext object error bytes) = true
 is_complete_call _ = false
 
--- the callback of the operation that an accepted CompleteIo completes. It is told by the call, whatever the answer says
-abbrev pub completed_call : Call → List ℕ
-completed_call (CompleteIo callback error bytes) = callback ∷ []
-completed_call _ = []
+-- the callback of the operation that an accepted CompleteIo or CompleteNext completes. Of the first its call tells, whatever
+-- the answer says, and of the second its answer
+abbrev pub completed_call : Call → Answer → List ℕ
+completed_call (CompleteIo callback error bytes) told = callback ∷ []
+completed_call (CompleteNext object error bytes) (Queued first count) = first ∷ []
+completed_call _ told = []
 
 abbrev pub completed_by : Entry → List ℕ
-completed_by entry = if is_refusal entry.answer then [] else completed_call entry.call
+completed_by entry = if is_refusal entry.answer then [] else completed_call entry.call entry.answer
 
 -- what is pending as an operation completes was made before, and else what an entry tells to be pending is made by it
 abbrev pub queued_new : Entry → List ℕ
@@ -349,16 +352,17 @@ pub record Event : Type 0 where
 abbrev pub event : ℕ → Happening → Option Event
 event number what = Some (record { number = number; what = what })
 
-abbrev pub completion : Call → Option Event
-completion (CompleteIo callback error bytes) = event callback (Completes error bytes)
-completion _ = None
+abbrev pub completion : Call → Answer → Option Event
+completion (CompleteIo callback error bytes) told = event callback (Completes error bytes)
+completion (CompleteNext object error bytes) (Queued first count) = event first (Completes error bytes)
+completion _ told = None
 
 abbrev pub event_of : Answer → Call → Option Event
 event_of (Operation callback) call = event callback Issues
 event_of (Cancelled callback) call = event callback GivesUp
 event_of (Taken callback object routine context result) call = event callback (Runs result)
 event_of (Refused refusal) call = None
-event_of answer call = completion call
+event_of answer call = completion call answer
 
 -- what an entry tells to happen to a callback that was there before
 abbrev pub event_by : Entry → Option Event

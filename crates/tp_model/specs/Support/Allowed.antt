@@ -88,6 +88,7 @@ Suits (kernel.Raise more) state = (is_semaphore state ≡ true) × (passes_by mo
 Suits kernel.Leave (state.Mutex owner takings) = Unit {0}
 Suits kernel.Leave (state.Section owner takings) = Unit {0}
 Suits kernel.Leave _ = ⊥
+Suits (kernel.Take who) state = may_take who state ≡ true
 
 pub record MayChange (w : World) (object : KernelId) (how : KernelChange) : Type 0 where
   pub row : KernelRow
