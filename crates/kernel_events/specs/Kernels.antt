@@ -1,15 +1,15 @@
 -- Kernel objects and the wait objects that are armed on them: what a contract sees of `KernelTable`. What one may do with
 -- one kernel object stands in tp_base's Kernels.
-use Rattle.std.specs.Prelude.{◌≡◌, ℕ, ◌-◌, ◌==◌, Bool, false, List, find, Option, None, Some, slice_get, slice_set, if◌then◌else◌}
+use Rattle.std.specs.Prelude.{◌≡◌, ℕ, ◌+◌, ◌-◌, ◌^◌, ◌<◌, ◌==◌, Bool, true, false, List, find, Option, None, Some, slice_get, slice_set, if◌then◌else◌}
 use Rattle.std.specs.Option.{option_map, option_map_or}
 use Rattle.tp_base.specs.declared.ids.ObjectId.{ObjectId}
 use Rattle.tp_base.specs.declared.plans.KernelChange.{KernelChange}
-use Rattle.tp_base.specs.declared.plans.KernelChange.TheVariants.{Raise}
+use Rattle.tp_base.specs.declared.plans.KernelChange.TheVariants.{Raise, Take}
 use Rattle.tp_base.specs.declared.rows.Arming.{Arming}
 use Rattle.tp_base.specs.declared.rows.KernelRow.{KernelRow}
 use Rattle.tp_base.specs.declared.rows.KernelState.{KernelState}
 use Rattle.tp_base.specs.Armings.{is_arming_on, without_arming}
-use Rattle.tp_base.specs.Kernels.{is_signalled, passes_by, taken}
+use Rattle.tp_base.specs.Kernels.{is_signalled, may_take, passes_by, taken, takings_of}
 use Rattle.kernel_events.specs.Armed.{first_on}
 
 -- how many can be made, the greatest number of a wait object, the kernel objects, number k at place k - 1, and the armed
@@ -35,9 +35,10 @@ new_row state = record { state = state }
 abbrev pub rows_with : (KernelState → KernelState) → List KernelRow → ℕ → List KernelRow
 rows_with f rows kernel = option_map_or (λ row. slice_set rows (kernel - 1) (record row { state = f row.state })) (numbered rows kernel) rows
 
--- a count that is raised stays within the maximum
+-- a count that is raised stays within the maximum; who takes it may take it, and it wasn't taken too often
 abbrev pub Suits : KernelChange → KernelState → Type 0
 Suits (Raise more) state = passes_by more state ≡ false
+Suits (Take who) state = (may_take who state ≡ true) × (takings_of state + 1 < 2 ^ 64)
 Suits _ state = Unit {0}
 
 -- one of them is there and passes the test

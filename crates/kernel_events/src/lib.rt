@@ -103,7 +103,8 @@ impl KernelTable {
     }
 
     /// Changes a kernel object: SetEvent, ResetEvent, ReleaseSemaphore, ReleaseMutex and
-    /// LeaveCriticalSection. A change that isn't for its kind changes nothing.
+    /// LeaveCriticalSection, or an actor takes it that may. A change that isn't for its kind changes
+    /// nothing.
     pub fn change(&mut self, kernel: KernelId, how: KernelChange)
         requires made { IsSome (numbered self.old.rows kernel.0) }
         requires suits { IfSome (numbered self.old.rows kernel.0) (λ row. Suits how row.state) }

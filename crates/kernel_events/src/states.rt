@@ -192,6 +192,7 @@ pub fn state_after(how: KernelChange, state: KernelState) -> KernelState
             owner: owner_left(owner, takings),
             takings: takings.saturating_sub(1),
         },
+        (KernelChange::Take(who), state) => taken_by(who, state),
         _ => state,
     }
 }

@@ -10,7 +10,7 @@ use Rattle.tp_base.specs.declared.rows.CallbackRow.{CallbackRow}
 use Rattle.tp_base.specs.declared.rows.Status.{Status}
 use Rattle.tp_base.specs.declared.rows.Status.TheVariants.{Expected, Issued, Pending, Running, Returned, Cancelled}
 use Rattle.tp_base.specs.declared.rows.WaitTarget.TheVariants.{Object}
-use Rattle.tp_model.specs.Calls.Io.{is_expected_of}
+use Rattle.tp_model.specs.Calls.Io.{is_expected_of, is_issued_of}
 use Rattle.tp_model.specs.Conditions.{is_operation_of}
 use Rattle.tp_model.specs.Counts.{is_expected, is_issued, is_operating, is_pending, is_pending_in}
 use Rattle.tp_model.specs.Waits.{is_held_for, is_outstanding_for}
@@ -84,7 +84,7 @@ module _ (pools objects : ℕ) where
   expected_agree object within (c ∷ cs) homes =
       (expected_by (6 * c.pool.0 + queue_number c.persistent c.priority) object c.object.0 (in_a_queue c homes.0) homes.0.1 within c.status, expected_agree object within cs homes.1)
 
-  issued_agree : (object : ℕ) → object ≤ objects → (cs : List CallbackRow) → AreAtHome cs → AllAgree (λ c. line_of pools objects c == 6 * pools + 2 * object + 1) (λ c. is_issued c.status && (c.object.0 == object)) cs
+  pub issued_agree : (object : ℕ) → object ≤ objects → (cs : List CallbackRow) → AreAtHome cs → AllAgree (λ c. line_of pools objects c == 6 * pools + 2 * object + 1) (is_issued_of object) cs
   issued_agree object within [] homes = tt
   issued_agree object within (c ∷ cs) homes =
       (issued_by (6 * c.pool.0 + queue_number c.persistent c.priority) object c.object.0 (in_a_queue c homes.0) homes.0.1 within c.status, issued_agree object within cs homes.1)

@@ -3,9 +3,8 @@
 //!
 //! `open` takes the memory, and no other call takes any. A callback comes by `push`, moves on by `change`
 //! and leaves by `remove`, and each of these knows every list: the queue of its pool, where it waits for a
-//! worker; what is outstanding for its object; of that what expects an operation, and what expects one or
-//! has it under way; and what was made with its group. So a caller tells what becomes of a callback, and of
-//! no list.
+//! worker; what is outstanding for its object; of that what expects an operation, and what has one under
+//! way; and what was made with its group. So a caller tells what becomes of a callback, and of no list.
 //!
 //! ```text
 //! let mut callbacks = LiveCallbacks::open(alloc, 8, 2, 4, 0)?;
@@ -28,7 +27,7 @@
 ghost use Rattle.std.specs.Prelude.{◌≡◌, ℕ, ◌+◌, ◌-◌, ◌^◌, ◌<◌, ◌≤◌, ◌==◌, ◌++◌, ◌∷◌, [], All, IfOk, Some, false, true, filter, find, length, map, nat_lt, not, slice_get, if◌then◌else◌};
 ghost use Rattle.std.specs.List.{list_any};
 ghost use Rattle.std.specs.Option.{option_copied};
-ghost use Rattle.tp_model.specs.Calls.Io.{is_expected_of};
+ghost use Rattle.tp_model.specs.Calls.Io.{is_expected_of, is_issued_of};
 ghost use Rattle.tp_model.specs.Conditions.{is_operation_of};
 ghost use Rattle.tp_model.specs.Counts.{is_operating, is_pending, is_pending_in};
 ghost use Rattle.live_callbacks.specs.Callbacks.{MovesOn, is_open, is_waiting_persistent, outstanding_among, queue_among};
@@ -348,6 +347,19 @@ impl LiveCallbacks {
         let _known = self.rows.len();
         let expected = 6 * self.lists.pools + 2 * object.0;
         lent_under(&self.rows, first_in(&self.lists.lines, expected)).copied()
+    }
+
+    /// The first callback of an object whose operation is under way, or None where none is.
+    #[inline(always)]
+    pub fn first_issued(&self, object: ObjectId) -> Option<CallbackRow>
+        ensures { result ≡ find (is_issued_of object.0) self.now.rows }
+    {
+        if object.0 > self.lists.objects {
+            return None;
+        }
+        let _known = self.rows.len();
+        let issued = 6 * self.lists.pools + 2 * object.0 + 1;
+        lent_under(&self.rows, first_in(&self.lists.lines, issued)).copied()
     }
 
     /// Whether a callback of an object expects an operation or has it under way.

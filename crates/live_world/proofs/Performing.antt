@@ -126,7 +126,7 @@ release_long count (suc n) kernel f long =
 returning_long : (w : World) (words : ActionWords) (slots : Slots) → length (returning w words slots).sources.kernels ≡ length w.kernels
 returning_long w words slots =
     performed_keeps (λ f. length f.sources.kernels ≡ length w.kernels)
-    (λ how kernel f long. release_long (length w.kernels) (length f.sources.armings) kernel (record f { sources = with_state (state_after how) kernel f.sources }) (changed_length (state_after how) f.sources.kernels kernel ∙ long))
+    (λ how _ kernel f long. release_long (length w.kernels) (length f.sources.armings) kernel (record f { sources = with_state (state_after how) kernel f.sources }) (changed_length (state_after how) f.sources.kernels kernel ∙ long))
     (λ kernel f long. changed_length (state_after Leave) f.sources.kernels kernel ∙ long)
     words slots (jobless (sources_of w)) refl
 

@@ -1,7 +1,8 @@
 //! A kernel object is made, and one is changed.
 
-ghost use Rattle.std.specs.Prelude.{◌≡◌, ◌+◌};
+ghost use Rattle.std.specs.Prelude.{◌≡◌, ◌+◌, ◌^◌};
 ghost use Rattle.tp_model.specs.Support.Allowed.{IsAllowed};
+ghost use Rattle.tp_model.specs.Support.Ranged.{AreTakenAtMost};
 ghost use Rattle.live_world.specs.Live.{moved};
 
 use crate::LiveWorld;
@@ -18,9 +19,11 @@ impl LiveWorld {
         self.sources.create_kernel(state);
     }
 
-    // Sets or resets an event, raises the count of a semaphore, or gives back one taking of a lock.
+    // Sets or resets an event, raises the count of a semaphore, or gives back one taking of a lock; or an
+    // actor takes it that may.
     pub(crate) fn change_kernel(&mut self, kernel: KernelId, how: KernelChange)
-        requires { IsAllowed (self.old.made + 1) self.old.world (Change.ChangeKernel kernel how) }
+        requires allowed { IsAllowed (self.old.made + 1) self.old.world (Change.ChangeKernel kernel how) }
+        requires taken { AreTakenAtMost (2 ^ 47) self.old.world }
         ensures { self.new ≡ moved self.old (Change.ChangeKernel kernel how) }
     {
         self.sources.change(kernel, how);

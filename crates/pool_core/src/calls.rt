@@ -79,8 +79,10 @@ impl Engine {
             IssueIo { object } => issue_io;
             CancelIo { object } => cancel_io;
             CompleteIo { callback, error, bytes } => complete_io;
+            CompleteNext { object, error, bytes } => complete_next;
             BeginWait { kind, object, cancel } => begin_wait;
             BeginAcquire { kernel } => begin_acquire;
+            TryAcquire { kernel } => try_acquire;
             End => end;
             CreateEvent { manual, signalled } => create_event;
             CreateSemaphore { initial, maximum } => create_semaphore;
@@ -424,6 +426,24 @@ impl Engine {
     }
 
     #[inline(never)]
+    fn complete_next(
+        &mut self,
+        who: Who,
+        object: ObjectId,
+        error: u32,
+        bytes: u64,
+        room: u64,
+        outcome: &mut Outcome,
+        change: &mut Change,
+    )
+        requires in_range { IsCallInRange (Call.CompleteNext object error bytes) }
+        requires young { self.old.age < 2 ^ 47 }
+        ensures made { IsMade self.old self.new room who (Call.CompleteNext object error bytes) outcome.new }
+    {
+        settled!(self, who, room, outcome, change: Call::CompleteNext { object, error, bytes } => io::complete_next(object, error, bytes));
+    }
+
+    #[inline(never)]
     fn begin_wait(
         &mut self,
         who: Who,
@@ -455,6 +475,22 @@ impl Engine {
         ensures made { IsMade self.old self.new room who (Call.BeginAcquire kernel) outcome.new }
     {
         settled!(self, who, room, outcome, change: Call::BeginAcquire { kernel } => waits::begin_acquire(kernel));
+    }
+
+    #[inline(never)]
+    fn try_acquire(
+        &mut self,
+        who: Who,
+        kernel: KernelId,
+        room: u64,
+        outcome: &mut Outcome,
+        change: &mut Change,
+    )
+        requires in_range { IsCallInRange (Call.TryAcquire kernel) }
+        requires young { self.old.age < 2 ^ 47 }
+        ensures made { IsMade self.old self.new room who (Call.TryAcquire kernel) outcome.new }
+    {
+        settled!(self, who, room, outcome, change: Call::TryAcquire { kernel } => waits::try_acquire(kernel));
     }
 
     #[inline(never)]

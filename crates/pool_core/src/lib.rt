@@ -31,9 +31,11 @@
 //! | `CreateSemaphore`, `ReleaseSemaphore` | those of these names |
 //! | `CreateLock`, `ReleaseLock` | `CreateMutex`, `ReleaseMutex`, `InitializeCriticalSection`, `LeaveCriticalSection` |
 //! | `BeginAcquire`, then `End` | `WaitForSingleObject`, `EnterCriticalSection` |
+//! | `TryAcquire` | `WaitForSingleObject` with a time of 0, `TryEnterCriticalSection` |
 //! | `MayRunLong` | `CallbackMayRunLong` |
 //! | `Disassociate` | `DisassociateCurrentThreadFromCallback` |
 //! | `Attach`, `Detach`, `Take`, `Return` | none: what the threads of a pool do |
+//! | `CompleteNext` | `CancelIoEx` one operation at a time; else none: what a device does |
 //! | `IssueIo`, `CompleteIo` | none: a read, a write or the like, and the end of it |
 //! | `Advance`, `Finish` | none: time passes, and a client has no more to do |
 //!

@@ -1,9 +1,9 @@
 //! Calls on I/O objects: `StartThreadpoolIo` and `CancelThreadpoolIo`; and an operation is issued, and
-//! the system completes it.
+//! the system completes it, or `CancelIoEx` does.
 
 ghost use Rattle.pool_plans.specs.Decided.{decided};
 ghost use Rattle.std.specs.Prelude.{◌≡◌, ◌+◌, ◌^◌, ◌<◌, Some};
-ghost use Rattle.tp_model.specs.Calls.Io.{expecting as expecting_of, start_io_plan, issue_io_plan, cancel_io_plan, complete_io_plan};
+ghost use Rattle.tp_model.specs.Calls.Io.{complete_io as complete_io_of, expecting as expecting_of, start_io_plan, issue_io_plan, cancel_io_plan, complete_io_plan, complete_next_plan};
 
 use crate::decisions::{Decision, accept};
 use crate::objects::one_callback;
@@ -126,24 +126,17 @@ pub fn cancel_io(
     )
 }
 
-/// Completes an operation that is under way. Its callback is then pending.
-#[tactic(auto, unfolding(tp_model::specs::Calls::Io::complete_io_plan))]
-pub fn complete_io(
-    world: &LiveWorld,
-    who: Who,
-    callback: u64,
+// Completes the operation of this callback, if there is one.
+#[inline(always)]
+fn complete(
+    issued: Option<CallbackRow>,
     error: u32,
     bytes: u64,
     change: &mut Change,
     outcome: &mut Outcome,
 ) -> Decision
-    ensures { decided result outcome.new change.new ≡ Some (complete_io_plan world.now.world who callback error bytes) }
+    ensures { decided result outcome.new change.new ≡ Some (complete_io_of error bytes issued) }
 {
-    let issued = world.issued(callback);
-    let refusal = actor_refusal!(world, who, [(issued.is_none(), Refusal::NoOperation)]);
-    if let Some(refusal) = refusal {
-        return Decision::Refused(refusal);
-    }
     let Some(callback) = issued else {
         return Decision::Refused(Refusal::NoOperation);
     };
@@ -159,4 +152,60 @@ pub fn complete_io(
             how: IoStep::Complete { error, bytes },
         },
     )
+}
+
+/// Completes an operation that is under way. Its callback is then pending.
+#[tactic(auto, unfolding(tp_model::specs::Calls::Io::complete_io_plan))]
+pub fn complete_io(
+    world: &LiveWorld,
+    who: Who,
+    callback: u64,
+    error: u32,
+    bytes: u64,
+    change: &mut Change,
+    outcome: &mut Outcome,
+) -> Decision
+    ensures { decided result outcome.new change.new ≡ Some (complete_io_plan world.now.world who callback error bytes) }
+{
+    let issued = world.issued(callback);
+    match actor_refusal!(world, who, [(issued.is_none(), Refusal::NoOperation)]) {
+        Some(refusal) => Decision::Refused(refusal),
+        None => complete(issued, error, bytes, change, outcome),
+    }
+}
+
+/// Completes the first operation of an object that is under way, also where the object is released: a
+/// device knows nothing of that.
+#[tactic(auto, unfolding(tp_model::specs::Calls::Io::complete_next_plan))]
+pub fn complete_next(
+    world: &LiveWorld,
+    who: Who,
+    object: ObjectId,
+    error: u32,
+    bytes: u64,
+    change: &mut Change,
+    outcome: &mut Outcome,
+) -> Decision
+    ensures { decided result outcome.new change.new ≡ Some (complete_next_plan world.now.world who object error bytes) }
+{
+    let issued = world.callbacks().first_issued(object);
+    let actor = live_queries::actor(world, who);
+    let refusal = first_of!([
+        (
+            either(!actor.exists, !world.objects().is_object(object)),
+            Refusal::NoSuch
+        ),
+        (
+            !world.objects().is_object_of(Kind::Io, object),
+            Refusal::WrongKind
+        ),
+        (actor.finished, Refusal::Released),
+        (actor.is_idle, Refusal::NotRunning),
+        (actor.in_wait, Refusal::InWait),
+        (issued.is_none(), Refusal::NoOperation),
+    ]);
+    match refusal {
+        Some(refusal) => Decision::Refused(refusal),
+        None => complete(issued, error, bytes, change, outcome),
+    }
 }

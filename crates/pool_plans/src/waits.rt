@@ -2,10 +2,11 @@
 //! objects: `WaitForSingleObject` and `EnterCriticalSection`. BeginWait and BeginAcquire are the entry of
 //! the function, and End its return; a wait that closes a group's members gives its notices before it ends.
 //! A wait that can't end yet ends nevertheless where the machine is stalled, and gives no notice then.
+//! TryAcquire begins none: `WaitForSingleObject` with a time of 0, and `TryEnterCriticalSection`.
 
 ghost use Rattle.pool_plans.specs.Decided.{decided};
 ghost use Rattle.std.specs.Prelude.{◌≡◌, Some};
-ghost use Rattle.tp_model.specs.Calls.Waits.{begin_wait_plan, begin_acquire_plan};
+ghost use Rattle.tp_model.specs.Calls.Waits.{begin_wait_plan, begin_acquire_plan, try_acquire_plan};
 ghost use Rattle.tp_model.specs.Calls.End.{end_plan, stall_or_look};
 ghost use Rattle.pool_plans.specs.Ending.{end_at as end_at_of};
 
@@ -17,7 +18,23 @@ use live_world::waits::Progress;
 use tp_base::answers::{Answer, Look, Outcome, Refusal};
 use tp_base::calls::Kind;
 use tp_base::ids::{KernelId, ObjectId, Who};
-use tp_base::plans::{Awaited, Change, WaitEnd};
+use tp_base::plans::{Awaited, Change, KernelChange, WaitEnd};
+
+// Of a call that asks for a kernel object, whatever its kind is.
+macro_rules! acquire_refusal {
+    ($world:ident, $who:ident, $kernel:ident) => {{
+        let actor = live_queries::actor($world, $who);
+        first_of!([
+            (
+                either(!actor.exists, !$world.sources().is_kernel($kernel)),
+                Refusal::NoSuch
+            ),
+            (actor.finished, Refusal::Released),
+            (actor.is_idle, Refusal::NotRunning),
+            (actor.in_wait, Refusal::InWait),
+        ])
+    }};
+}
 
 /// Begins a wait for the callbacks of an object, those that are pending cancelled or not.
 #[tactic(auto, unfolding(tp_model::specs::Calls::Waits::begin_wait_plan))]
@@ -69,17 +86,7 @@ pub fn begin_acquire(
 ) -> Decision
     ensures { decided result outcome.new change.new ≡ Some (begin_acquire_plan world.now.world who kernel) }
 {
-    let actor = live_queries::actor(world, who);
-    let refusal = first_of!([
-        (
-            either(!actor.exists, !world.sources().is_kernel(kernel)),
-            Refusal::NoSuch
-        ),
-        (actor.finished, Refusal::Released),
-        (actor.is_idle, Refusal::NotRunning),
-        (actor.in_wait, Refusal::InWait),
-    ]);
-    if let Some(refusal) = refusal {
+    if let Some(refusal) = acquire_refusal!(world, who, kernel) {
         return Decision::Refused(refusal);
     }
     accept(
@@ -90,6 +97,34 @@ pub fn begin_acquire(
             who,
             awaited: Awaited::Kernel(kernel),
             cancel: false,
+        },
+    )
+}
+
+/// Takes a kernel object where the actor may take it now, and tells whether it did. No wait is begun.
+#[tactic(auto, unfolding(tp_model::specs::Calls::Waits::try_acquire_plan))]
+pub fn try_acquire(
+    world: &LiveWorld,
+    who: Who,
+    kernel: KernelId,
+    change: &mut Change,
+    outcome: &mut Outcome,
+) -> Decision
+    ensures { decided result outcome.new change.new ≡ Some (try_acquire_plan world.now.world who kernel) }
+{
+    if let Some(refusal) = acquire_refusal!(world, who, kernel) {
+        return Decision::Refused(refusal);
+    }
+    if !world.sources().may_take(who, kernel) {
+        return accept(change, outcome, Answer::Flag { value: false }, Change::Keep);
+    }
+    accept(
+        change,
+        outcome,
+        Answer::Flag { value: true },
+        Change::ChangeKernel {
+            kernel,
+            how: KernelChange::Take(who),
         },
     )
 }

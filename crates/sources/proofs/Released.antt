@@ -440,7 +440,7 @@ module _ (i : Inside) (l : SourceRows) (who : Who) (words : ActionWords) (slots 
       omega (
         arith,
         both_count,
-        performed_keeps (λ f. length f.jobs + length f.sources.armings ≤ length l.sources.armings) (λ how kernel f h. omega (arith, signal_within how kernel f, h)) (λ kernel f h. h) words slots (jobless l.sources) (omega arith),
+        performed_keeps (λ f. length f.jobs + length f.sources.armings ≤ length l.sources.armings) (λ how _ kernel f h. omega (arith, signal_within how kernel f, h)) (λ kernel f h. h) words slots (jobless l.sources) (omega arith),
         ap (λ (r : SourceRows). length r.sources.armings) is,
         armed_few i k,
         k.fits,

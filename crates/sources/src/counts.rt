@@ -22,6 +22,7 @@ fn most_released(how: KernelChange, state: KernelState) -> u32
             let signalled = match how {
                 KernelChange::Set => true,
                 KernelChange::Reset => false,
+                KernelChange::Take(_) => manual && signalled,
                 _ => signalled,
             };
             if !signalled {
@@ -34,6 +35,7 @@ fn most_released(how: KernelChange, state: KernelState) -> u32
         }
         KernelState::Semaphore { count, .. } => match how {
             KernelChange::Raise(more) => count.saturating_add(more),
+            KernelChange::Take(_) => count.saturating_sub(1),
             _ => count,
         },
         KernelState::Mutex { .. } | KernelState::Section { .. } => 0,

@@ -27,8 +27,8 @@ impl LiveSources {
         self.kernels.create(state);
     }
 
-    /// Sets or resets an event, raises the count of a semaphore, or gives back one taking of a lock. What
-    /// is armed on it hasn't fired yet.
+    /// Sets or resets an event, raises the count of a semaphore, or gives back one taking of a lock; or an
+    /// actor takes it that may. What is armed on it hasn't fired yet.
     pub fn change(&mut self, kernel: KernelId, how: KernelChange)
         requires made { IsSome (numbered self.old.sources.kernels kernel.0) }
         requires suits { IfSome (numbered self.old.sources.kernels kernel.0) (λ row. Suits how row.state) }
