@@ -54,10 +54,11 @@ pub(crate) fn other_call<'a>(text: &'a [u8], call: &mut Call) -> Option<&'a [u8]
         [_, b's', ..] => start_io(text, call),
         [_, b'c', b'r', ..] => create(text, call),
         [_, b'c', b'l', ..] => close_members(text, call),
-        [_, b'c', ..] => complete_io(text, call),
+        [_, b'c', ..] => completion(text, call),
         [_, b'i', b's', b's', ..] => issue_io(text, call),
         [_, b'i', ..] => is_timer_set(text, call),
         [_, b'w', ..] => begin_wait(text, call),
+        [_, b't', ..] => try_acquire(text, call),
         _ => None,
     }
 }
@@ -168,6 +169,16 @@ fn issue_io<'a>(text: &'a [u8], call: &mut Call) -> Option<&'a [u8]>
     Some(rest)
 }
 
+// The completion of an operation, which is named by its callback or is the next one of an object.
+fn completion<'a>(text: &'a [u8], call: &mut Call) -> Option<&'a [u8]>
+    ensures { IfSome result (λ rest. IsFront CallTexts text.now call.new rest.now) }
+{
+    match complete_io(text, call) {
+        Some(rest) => Some(rest),
+        None => complete_next(text, call),
+    }
+}
+
 fn complete_io<'a>(text: &'a [u8], call: &mut Call) -> Option<&'a [u8]>
     ensures { IfSome result (λ rest. IsFront CallTexts text.now call.new rest.now) }
 {
@@ -184,6 +195,21 @@ fn complete_io<'a>(text: &'a [u8], call: &mut Call) -> Option<&'a [u8]>
     Some(rest)
 }
 
+fn complete_next<'a>(text: &'a [u8], call: &mut Call) -> Option<&'a [u8]>
+    ensures { IfSome result (λ rest. IsFront CallTexts text.now call.new rest.now) }
+{
+    let start = behind_word(b" complete-next ", text)?;
+    let (object, second) = front_number(start, ID_MOST)?;
+    let (error, third) = front_number(behind(b' ', second)?, SMALL_MOST)?;
+    let (bytes, rest) = front_number(behind(b' ', third)?, u64::MAX)?;
+    *call = Call::CompleteNext {
+        object: ObjectId(object as u32),
+        error: error as u32,
+        bytes,
+    };
+    Some(rest)
+}
+
 fn set_event<'a>(text: &'a [u8], call: &mut Call) -> Option<&'a [u8]>
     ensures { IfSome result (λ rest. IsFront CallTexts text.now call.new rest.now) }
 {
@@ -191,6 +217,16 @@ fn set_event<'a>(text: &'a [u8], call: &mut Call) -> Option<&'a [u8]>
     let (number, rest) = front_number(start, ID_MOST)?;
     let kernel = KernelId(number as u32);
     *call = Call::SetEvent { kernel };
+    Some(rest)
+}
+
+fn try_acquire<'a>(text: &'a [u8], call: &mut Call) -> Option<&'a [u8]>
+    ensures { IfSome result (λ rest. IsFront CallTexts text.now call.new rest.now) }
+{
+    let start = behind_word(b" try-acquire ", text)?;
+    let (number, rest) = front_number(start, ID_MOST)?;
+    let kernel = KernelId(number as u32);
+    *call = Call::TryAcquire { kernel };
     Some(rest)
 }
 

@@ -90,7 +90,8 @@ calls_of_operations : AreTexts (line_of_call (Client 1))
     ((call.StartIo (record { 0 = 3 }), codes "c1 start-io 3")
     ∷ (call.IssueIo (record { 0 = 3 }), codes "c1 issue-io 3")
     ∷ (call.CancelIo (record { 0 = 3 }), codes "c1 cancel-io 3")
-    ∷ (call.CompleteIo 4 38 512, codes "c1 complete-io 4 38 512") ∷ [])
+    ∷ (call.CompleteIo 4 38 512, codes "c1 complete-io 4 38 512")
+    ∷ (call.CompleteNext (record { 0 = 3 }) 995 0, codes "c1 complete-next 3 995 0") ∷ [])
 unfolding digits
 calls_of_operations = refl
 
@@ -104,7 +105,8 @@ calls_of_kernel_objects : AreTexts (line_of_call (Worker 64))
     ∷ (call.ResetEvent (record { 0 = 2 }), codes "w64 reset-event 2")
     ∷ (call.ReleaseSemaphore (record { 0 = 7 }) 12, codes "w64 release-semaphore 7 12")
     ∷ (call.ReleaseLock lock.Section (record { 0 = 9 }), codes "w64 release-lock section 9")
-    ∷ (call.BeginAcquire (record { 0 = 9 }), codes "w64 acquire 9") ∷ [])
+    ∷ (call.BeginAcquire (record { 0 = 9 }), codes "w64 acquire 9")
+    ∷ (call.TryAcquire (record { 0 = 9 }), codes "w64 try-acquire 9") ∷ [])
 unfolding digits
 calls_of_kernel_objects = refl
 

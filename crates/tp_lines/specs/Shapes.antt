@@ -32,8 +32,10 @@ shape_of word.StartIo = record { table = field.Call; text = codes "start-io"; fi
 shape_of word.IssueIo = record { table = field.Call; text = codes "issue-io"; fields = field.Short ∷ [] }
 shape_of word.CancelIo = record { table = field.Call; text = codes "cancel-io"; fields = field.Short ∷ [] }
 shape_of word.CompleteIo = record { table = field.Call; text = codes "complete-io"; fields = field.Large ∷ field.Small ∷ field.Large ∷ [] }
+shape_of word.CompleteNext = record { table = field.Call; text = codes "complete-next"; fields = field.Short ∷ field.Small ∷ field.Large ∷ [] }
 shape_of word.BeginWait = record { table = field.Call; text = codes "wait"; fields = field.Kind ∷ field.Short ∷ field.How ∷ [] }
 shape_of word.BeginAcquire = record { table = field.Call; text = codes "acquire"; fields = field.Short ∷ [] }
+shape_of word.TryAcquire = record { table = field.Call; text = codes "try-acquire"; fields = field.Short ∷ [] }
 shape_of word.End = record { table = field.Call; text = codes "end"; fields = [] }
 shape_of word.CreateEvent = record { table = field.Call; text = codes "create-event"; fields = field.Reset ∷ field.Signal ∷ [] }
 shape_of word.CreateSemaphore = record { table = field.Call; text = codes "create-semaphore"; fields = field.Level ∷ field.Level ∷ [] }

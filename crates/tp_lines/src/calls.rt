@@ -99,12 +99,20 @@ fn call_at(word: Word, parts: &Parts) -> Option<Call>
             error: parts.at(2).small(),
             bytes: parts.at(3).large(),
         },
+        Word::CompleteNext => Call::CompleteNext {
+            object: ObjectId(parts.at(1).small()),
+            error: parts.at(2).small(),
+            bytes: parts.at(3).large(),
+        },
         Word::BeginWait => Call::BeginWait {
             kind: parts.at(1).kind(),
             object: ObjectId(parts.at(2).small()),
             cancel: parts.at(3).cancels(),
         },
         Word::BeginAcquire => Call::BeginAcquire {
+            kernel: KernelId(parts.at(1).small()),
+        },
+        Word::TryAcquire => Call::TryAcquire {
             kernel: KernelId(parts.at(1).small()),
         },
         Word::End => Call::End,
@@ -273,6 +281,9 @@ pub fn put_call(call: &Call, out: &mut [u8], at: usize) -> usize
         | Call::CancelIo {
             object: ObjectId(number),
         }
+        | Call::TryAcquire {
+            kernel: KernelId(number),
+        }
         | Call::SetEvent {
             kernel: KernelId(number),
         }
@@ -344,6 +355,12 @@ pub fn put_call(call: &Call, out: &mut [u8], at: usize) -> usize
             error,
             bytes,
         } => row!(out, at; word, number(*callback) number(u64::from(*error)) number(*bytes)),
+        Call::CompleteNext {
+            object,
+            error,
+            bytes,
+        } =>
+            row!(out, at; word, number(u64::from(object.0)) number(u64::from(*error)) number(*bytes)),
         Call::BeginWait {
             kind,
             object,
@@ -394,8 +411,10 @@ fn word_of(call: &Call) -> Word
         Call::IssueIo { .. } => Word::IssueIo,
         Call::CancelIo { .. } => Word::CancelIo,
         Call::CompleteIo { .. } => Word::CompleteIo,
+        Call::CompleteNext { .. } => Word::CompleteNext,
         Call::BeginWait { .. } => Word::BeginWait,
         Call::BeginAcquire { .. } => Word::BeginAcquire,
+        Call::TryAcquire { .. } => Word::TryAcquire,
         Call::End => Word::End,
         Call::CreateEvent { .. } => Word::CreateEvent,
         Call::CreateSemaphore { .. } => Word::CreateSemaphore,

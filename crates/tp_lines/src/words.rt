@@ -111,8 +111,10 @@ pub enum Word {
     IssueIo,
     CancelIo,
     CompleteIo,
+    CompleteNext,
     BeginWait,
     BeginAcquire,
+    TryAcquire,
     End,
     CreateEvent,
     CreateSemaphore,
@@ -240,8 +242,10 @@ macro_rules! words {
                 (Word::IssueIo) b"issue-io" [Short];
                 (Word::CancelIo) b"cancel-io" [Short];
                 (Word::CompleteIo) b"complete-io" [Large Small Large];
+                (Word::CompleteNext) b"complete-next" [Short Small Large];
                 (Word::BeginWait) b"wait" [Kind Short How];
                 (Word::BeginAcquire) b"acquire" [Short];
+                (Word::TryAcquire) b"try-acquire" [Short];
                 (Word::End) b"end" [];
                 (Word::CreateEvent) b"create-event" [Reset Signal];
                 (Word::CreateSemaphore) b"create-semaphore" [Level Level];
@@ -433,7 +437,7 @@ macro_rules! all_words {
 }
 
 /// All words.
-pub static WORDS: [Word; 142] = words!(all_words, ());
+pub static WORDS: [Word; 144] = words!(all_words, ());
 
 // What is known of a word.
 struct Known {
