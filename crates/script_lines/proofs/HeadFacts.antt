@@ -10,6 +10,8 @@ use Rattle.script_lines.specs.declared.line.Token.{Token}
 use Rattle.script_lines.specs.declared.line.Token.TheVariants as token
 use Rattle.script_lines.specs.declared.names.Named.{Named}
 use Rattle.script_lines.specs.declared.state.State.{State}
+use Rattle.script_lines.specs.declared.words.Class.{Class}
+use Rattle.script_lines.specs.declared.words.Class.TheVariants as class
 use Rattle.script_lines.specs.declared.words.Field.{Field}
 use Rattle.script_lines.specs.declared.words.Field.TheVariants as field
 use Rattle.script_lines.specs.declared.words.Sort.{Sort}
@@ -25,7 +27,7 @@ use Rattle.script_lines.specs.Readings.{Goes, IsLineRead, StepsBy, Trail, first_
 use Rattle.script_lines.specs.Shapes.{all_words, class_of, text_of_word}
 use Rattle.script_lines.specs.States.{count_of, limit_of}
 use Rattle.script_lines.specs.Texts.{Spot, is_name}
-use Rattle.script_lines.specs.Tokens.{FitsForm, armed_of, choice_of, fresh_of, has_room, is_at, is_head, is_repeated, may_stand, name_of, suits, token_of_word, word_at}
+use Rattle.script_lines.specs.Tokens.{FitsForm, armed_of, choice_of, fresh_of, has_room, is_at, is_conditional, is_head, is_repeated, may_stand, name_of, suits, token_of_word, word_at}
 
 -- there is room for what the word begins, and it may begin a line here or be repeated; `done` stands for a line that says nothing yet
 abbrev pub MayHead : State → Word → Type 0
@@ -57,9 +59,16 @@ module _ (state : State) where
   of_none : (said : Token) → None ≡ Some said → SaysHead state said
   of_none said e = let no_such : ⊥ = cc in absurd no_such
 
+  -- what may stand behind a condition may be repeated
+  repeated : (of : Class) → is_conditional state.place of ≡ true → is_repeated state.place of ≡ true
+  repeated class.Operation stands = stands
+  repeated class.Own stands = stands
+  repeated _ stands = let no_such : ⊥ = cc in absurd no_such
+
   said_head : (part : Field) (head : Word) → has_room state head ≡ true → may_stand state.place part (class_of head) ≡ true → SaysHead state (token_of_word part head)
   said_head field.Head head room stands = inr (room, inl stands)
   said_head field.Repeated head room stands = inr (room, inr stands)
+  said_head field.Conditional head room stands = inr (room, inr (repeated (class_of head) stands))
   said_head _ head room stands = tt
 
   chosen_head : (part : Field) (found : Option Word) (said : Token) → ((head : Word) → found ≡ Some head → may_stand state.place part (class_of head) ≡ true)

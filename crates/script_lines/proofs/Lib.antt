@@ -1,3 +1,4 @@
+mod Examples
 pub mod HeadFacts
 pub mod LineFacts
 mod NameFacts

@@ -3,6 +3,8 @@ use Rattle.std.specs.Prelude.{ℕ, Bool, true, false, List, [], ◌∷◌, None,
 use Rattle.tp_base.specs.declared.calls.Kind.{Kind}
 use Rattle.tp_base.specs.declared.calls.Kind.TheVariants as kind
 use Rattle.tp_base.specs.declared.calls.Priority.TheVariants as priority
+use Rattle.script_lines.specs.declared.line.Condition.{Condition}
+use Rattle.script_lines.specs.declared.line.Condition.TheVariants.{Always, If, Unless}
 use Rattle.script_lines.specs.declared.line.Form.{Form}
 use Rattle.script_lines.specs.declared.line.Form.TheVariants as form
 use Rattle.script_lines.specs.declared.line.Line.{Line}
@@ -30,6 +32,7 @@ blank = record {
   kernel = nothing;
   made = 0;
   times = 1;
+  condition = Always;
   routine = 0;
   cancel = 0;
   pool = 0;
@@ -50,17 +53,26 @@ abbrev pub is_times : Word → Bool
 is_times word.Times = true
 is_times _ = false
 
--- how often what comes next is made: as often as `times` said, or once
+-- how often what comes next is made: as often as `times` says, or said before the condition, or once
 abbrev pub count_of_repeats : Line → ℕ
-count_of_repeats line = if is_times line.head then (if nat_le line.number 10000 then line.number else 1) else 1
+count_of_repeats line = if is_times line.head then (if nat_le line.number 10000 then line.number else 1) else line.times
+
+-- what is asked before the operation: the kernel object that was named behind `if` or `unless`
+abbrev pub condition_by : Line → Word → Condition
+condition_by line word.If = If line.kernel.number
+condition_by line word.Unless = Unless line.kernel.number
+condition_by line _ = line.condition
+
+abbrev pub condition_of : Line → Condition
+condition_of line = condition_by line line.head
 
 abbrev pub kind_in : Word → Kind → Kind
 kind_in (word.Object kind) before = kind
 kind_in _ before = before
 
--- what the line is; behind `times` and its count, what is repeated
+-- what the line is; behind `times` and its count, and behind a condition, what is made; the operation has a kernel object of its own
 abbrev pub with_head : Line → Word → Line
-with_head line head = record line { head = head; kind = kind_in head line.kind; times = count_of_repeats line; number = 0 }
+with_head line head = record line { head = head; kind = kind_in head line.kind; times = count_of_repeats line; condition = condition_of line; kernel = nothing; number = 0 }
 
 abbrev pub put_word : Line → Word → Line
 put_word line word.Long = record line { long = true }
@@ -137,6 +149,7 @@ above_zero number = if nat_lt number 1 then 1 else number
 abbrev pub form_of : Field → Line → Form
 form_of field.Head line = form.Choice
 form_of field.Repeated line = form.Choice
+form_of field.Conditional line = form.Choice
 form_of (field.Fresh tally) line = form.Fresh tally
 form_of (field.Name wanted) line = form.Name wanted
 form_of field.Armed line = form.Armed

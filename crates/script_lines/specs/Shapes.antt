@@ -38,6 +38,7 @@ shape_of word.StartIo = record { class = class.Operation; text = codes "start-io
 shape_of word.CancelIo = record { class = class.Operation; text = codes "cancel-io"; fields = field.Name want.Io ∷ [] }
 shape_of word.IssueIo = record { class = class.Making; text = codes "issue-io"; fields = field.Name want.Io ∷ field.Fresh tally.Locals ∷ [] }
 shape_of word.CompleteIo = record { class = class.Operation; text = codes "complete-io"; fields = field.Name want.Operation ∷ field.Small ∷ field.Large ∷ [] }
+shape_of word.CompleteNext = record { class = class.Operation; text = codes "complete-next"; fields = field.Name want.Io ∷ field.Small ∷ field.Large ∷ [] }
 shape_of word.Let = record { class = class.Making; text = codes "let"; fields = field.Fresh tally.Locals ∷ field.Kind ∷ field.Routine ∷ field.Options 1 ∷ [] }
 shape_of word.Close = record { class = class.Operation; text = codes "close"; fields = field.Name want.Object ∷ [] }
 shape_of word.BeginWait = record { class = class.Operation; text = codes "wait"; fields = field.Name want.Object ∷ field.How ∷ [] }
@@ -51,11 +52,14 @@ shape_of word.ResetEvent = record { class = class.Operation; text = codes "reset
 shape_of word.ReleaseSemaphore = record { class = class.Operation; text = codes "release-semaphore"; fields = field.Name want.Semaphore ∷ field.Units ∷ [] }
 shape_of word.Release = record { class = class.Operation; text = codes "release"; fields = field.Name want.Lock ∷ [] }
 shape_of word.Acquire = record { class = class.Operation; text = codes "acquire"; fields = field.Name want.Kernel ∷ [] }
+shape_of word.TryAcquire = record { class = class.Operation; text = codes "try-acquire"; fields = field.Name want.Kernel ∷ [] }
 shape_of word.Advance = record { class = class.Operation; text = codes "advance"; fields = field.Time ∷ [] }
 shape_of word.MayRunLong = record { class = class.Own; text = codes "may-run-long"; fields = [] }
 shape_of word.Disassociate = record { class = class.Own; text = codes "disassociate"; fields = [] }
 shape_of word.OnReturn = record { class = class.Own; text = codes "on-return"; fields = field.Name want.Kernel ∷ field.UnitsOption ∷ [] }
 shape_of word.Times = record { class = class.Times; text = codes "times"; fields = field.Count ∷ field.Repeated ∷ [] }
+shape_of word.If = record { class = class.Condition; text = codes "if"; fields = field.Name want.Kernel ∷ field.Conditional ∷ [] }
+shape_of word.Unless = record { class = class.Condition; text = codes "unless"; fields = field.Name want.Kernel ∷ field.Conditional ∷ [] }
 shape_of word.Context = record { class = class.Option 1; text = codes "context"; fields = field.Large ∷ field.Options 2 ∷ [] }
 shape_of word.In = record { class = class.Option 2; text = codes "in"; fields = field.Name want.Pool ∷ field.Options 3 ∷ [] }
 shape_of word.OfPriority = record { class = class.Option 3; text = codes "priority"; fields = field.Priority ∷ field.Options 4 ∷ [] }
@@ -85,8 +89,8 @@ abbrev pub all_words : List Word
 all_words =
     word.Pool ∷ word.Group ∷ word.Event ∷ word.Semaphore ∷ word.Mutex ∷ word.Section ∷ word.Object kind.Work ∷ word.Object kind.Timer ∷ word.Object kind.Wait ∷ word.Object kind.Io ∷
     word.Routine ∷ word.Client ∷ word.Done ∷ word.Submit ∷ word.Simple ∷ word.SetTimer ∷ word.SetTimerEx ∷ word.IsTimerSet ∷ word.SetWait ∷ word.StartIo ∷ word.CancelIo ∷
-    word.IssueIo ∷ word.CompleteIo ∷ word.Let ∷ word.Close ∷ word.BeginWait ∷ word.CloseMembers ∷ word.CloseGroup ∷ word.ClosePool ∷ word.SetMaximum ∷ word.SetMinimum ∷
-    word.SetEvent ∷ word.ResetEvent ∷ word.ReleaseSemaphore ∷ word.Release ∷ word.Acquire ∷ word.Advance ∷ word.MayRunLong ∷ word.Disassociate ∷ word.OnReturn ∷ word.Times ∷
-    word.Context ∷ word.In ∷ word.OfPriority ∷ word.Long ∷ word.Persistent ∷ word.InGroup ∷ word.CancelBy ∷ word.Maximum ∷ word.Minimum ∷ word.Kind kind.Work ∷ word.Kind kind.Timer ∷
+    word.IssueIo ∷ word.CompleteIo ∷ word.CompleteNext ∷ word.Let ∷ word.Close ∷ word.BeginWait ∷ word.CloseMembers ∷ word.CloseGroup ∷ word.ClosePool ∷ word.SetMaximum ∷ word.SetMinimum ∷
+    word.SetEvent ∷ word.ResetEvent ∷ word.ReleaseSemaphore ∷ word.Release ∷ word.Acquire ∷ word.TryAcquire ∷ word.Advance ∷ word.MayRunLong ∷ word.Disassociate ∷ word.OnReturn ∷ word.Times ∷
+    word.If ∷ word.Unless ∷ word.Context ∷ word.In ∷ word.OfPriority ∷ word.Long ∷ word.Persistent ∷ word.InGroup ∷ word.CancelBy ∷ word.Maximum ∷ word.Minimum ∷ word.Kind kind.Work ∷ word.Kind kind.Timer ∷
     word.Kind kind.Wait ∷ word.Kind kind.Io ∷ word.Priority priority.High ∷ word.Priority priority.Normal ∷ word.Priority priority.Low ∷ word.How true ∷ word.How false ∷
     word.Reset true ∷ word.Reset false ∷ word.Signal true ∷ word.Signal false ∷ []

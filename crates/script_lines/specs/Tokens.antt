@@ -39,14 +39,22 @@ is_head place class.Done = is_inside place
 is_head place class.Operation = is_inside place
 is_head place class.Making = is_inside place
 is_head place class.Times = is_inside place
+is_head place class.Condition = is_inside place
 is_head place class.Own = is_in_routine place
 is_head place _ = false
 
 -- whether words of the class may be repeated
 abbrev pub is_repeated : Place → Class → Bool
 is_repeated place class.Operation = is_inside place
+is_repeated place class.Condition = is_inside place
 is_repeated place class.Own = is_in_routine place
 is_repeated place _ = false
+
+-- whether words of the class may stand behind a condition
+abbrev pub is_conditional : Place → Class → Bool
+is_conditional place class.Operation = is_inside place
+is_conditional place class.Own = is_in_routine place
+is_conditional place _ = false
 
 -- options stand in their order
 abbrev pub is_option : ℕ → Class → Bool
@@ -85,6 +93,7 @@ is_signal _ = false
 abbrev pub may_stand : Place → Field → Class → Bool
 may_stand place field.Head class = is_head place class
 may_stand place field.Repeated class = is_repeated place class
+may_stand place field.Conditional class = is_conditional place class
 may_stand place (field.Options first) class = is_option first class
 may_stand place field.CancelOption class = is_cancel class
 may_stand place (field.PoolOptions first) class = is_pool_option first class
@@ -110,6 +119,7 @@ has_room state _ = true
 abbrev pub token_of_word : Field → Word → Token
 token_of_word field.Head word = token.Head word
 token_of_word field.Repeated word = token.Head word
+token_of_word field.Conditional word = token.Head word
 token_of_word _ word = token.Word word
 
 abbrev pub choice_of : State → Field → List ℕ → Option Token

@@ -5,7 +5,7 @@ ghost use Rattle.script_lines.specs.declared.state.Place.{Place};
 ghost use Rattle.script_lines.specs.declared.words.Field.{Field};
 ghost use Rattle.script_lines.specs.declared.line.Token.{Token};
 ghost use Rattle.script_lines.specs.Known.{found_in, is_standing};
-ghost use Rattle.script_lines.specs.Tokens.{Fits, IsDueToken, IsNumberToken, armed_of, choice_of, fresh_kind, fresh_of, is_at, is_head, is_repeated, kind_of_field, may_stand, name_kind, name_of, suits, token_of_word, word_at};
+ghost use Rattle.script_lines.specs.Tokens.{Fits, IsDueToken, IsNumberToken, armed_of, choice_of, fresh_kind, fresh_of, is_at, is_conditional, is_head, is_repeated, kind_of_field, may_stand, name_kind, name_of, suits, token_of_word, word_at};
 
 use crate::fault::ScriptKind;
 use crate::line::{Form, Line, Meaning, Token, form_of};
@@ -133,6 +133,7 @@ fn words_with(letter: u8) -> &'static [Word]
             Word::Client,
             Word::CancelIo,
             Word::CompleteIo,
+            Word::CompleteNext,
             Word::Close,
             Word::CloseMembers,
             Word::CloseGroup,
@@ -148,6 +149,7 @@ fn words_with(letter: u8) -> &'static [Word]
             Word::Object(Kind::Io),
             Word::IsTimerSet,
             Word::IssueIo,
+            Word::If,
             Word::In,
             Word::Kind(Kind::Io),
         ],
@@ -175,9 +177,11 @@ fn words_with(letter: u8) -> &'static [Word]
         ],
         b't' => &[
             Word::Object(Kind::Timer),
+            Word::TryAcquire,
             Word::Times,
             Word::Kind(Kind::Timer),
         ],
+        b'u' => &[Word::Unless],
         b'w' => &[
             Word::Object(Kind::Work),
             Word::Object(Kind::Wait),
@@ -193,7 +197,7 @@ fn token_of_word(field: Field, word: Word) -> Token
     ensures { result ≡ token_of_word field word }
 {
     match field {
-        Field::Head | Field::Repeated => Token::Head(word),
+        Field::Head | Field::Repeated | Field::Conditional => Token::Head(word),
         _ => Token::Word(word),
     }
 }
@@ -205,6 +209,7 @@ fn may_stand(place: Place, field: Field, class: Class) -> bool
     match field {
         Field::Head => is_head(place, class),
         Field::Repeated => is_repeated(place, class),
+        Field::Conditional => is_conditional(place, class),
         Field::Options(first) => matches!(class, Class::Option(order) if first <= order),
         Field::CancelOption => matches!(class, Class::Cancel),
         Field::PoolOptions(first) => matches!(class, Class::PoolOption(order) if first <= order),
@@ -225,7 +230,9 @@ fn is_head(place: Place, class: Class) -> bool
         Class::Declaration => place.is_declaring(),
         Class::Routine => place.is_before_clients(),
         Class::Client => place.is_outside(),
-        Class::Done | Class::Operation | Class::Making | Class::Times => place.is_inside(),
+        Class::Done | Class::Operation | Class::Making | Class::Times | Class::Condition => {
+            place.is_inside()
+        }
         Class::Own => place.is_in_routine(),
         _ => false,
     }
@@ -234,6 +241,17 @@ fn is_head(place: Place, class: Class) -> bool
 // Whether words of the class may be repeated.
 fn is_repeated(place: Place, class: Class) -> bool
     ensures { result ≡ is_repeated place class }
+{
+    match class {
+        Class::Operation | Class::Condition => place.is_inside(),
+        Class::Own => place.is_in_routine(),
+        _ => false,
+    }
+}
+
+// Whether words of the class may stand behind a condition.
+fn is_conditional(place: Place, class: Class) -> bool
+    ensures { result ≡ is_conditional place class }
 {
     match class {
         Class::Operation => place.is_inside(),

@@ -28,7 +28,7 @@ mod words;
 
 pub use fault::ScriptKind;
 pub use judge::Known;
-pub use line::{Line, Meaning};
+pub use line::{Condition, Line, Meaning};
 pub use names::{Named, Table};
 pub use reading::{LineFault, LineRead, read_line};
 pub use state::{Place, State};

@@ -1,7 +1,7 @@
 //! A line of a script: what its words say.
 
 ghost use Rattle.std.specs.Prelude.{◌≡◌};
-ghost use Rattle.script_lines.specs.Lines.{after, blank, form_of, may_end, nothing, put, put_name, put_routine, put_word, with_head};
+ghost use Rattle.script_lines.specs.Lines.{after, blank, condition_of, count_of_repeats, form_of, may_end, nothing, put, put_name, put_routine, put_word, with_head};
 
 use crate::words::{Field, Sort, Tally, Want, Word, fields_of};
 use tp_base::calls::{Kind, Priority};
@@ -37,7 +37,19 @@ pub enum Token {
     Routine(u16),
 }
 
-/// What all words of a line say. What no word says is as on a blank line: 0, once, normal, short, not persistent and false.
+/// Whether the line's operation is made. It asks a kernel object, each time anew.
+#[derive(Clone, Copy)]
+pub enum Condition {
+    /// It is made, and nothing is asked.
+    Always,
+    /// It is made where the kernel object of this number could be taken.
+    If(u16),
+    /// It is made where it couldn't be taken.
+    Unless(u16),
+}
+
+/// What all words of a line say. What no word says is as on a blank line: 0, once, always, normal, short, not persistent and
+/// false.
 #[derive(Clone, Copy)]
 pub struct Line {
     pub due: Option<i64>,
@@ -53,6 +65,7 @@ pub struct Line {
     pub made: u16,
     /// How often the operation is made.
     pub times: u16,
+    pub condition: Condition,
     pub routine: u16,
     /// The routine behind `cancel`, or 0 for none.
     pub cancel: u16,
@@ -120,6 +133,7 @@ impl Line {
             kernel: Meaning::nothing(),
             made: 0,
             times: 1,
+            condition: Condition::Always,
             routine: 0,
             cancel: 0,
             pool: 0,
@@ -157,15 +171,11 @@ impl Line {
         }
     }
 
-    // What the line is. Behind `times` and its count it is what is repeated.
+    // What the line is. Behind `times` and its count, and behind a condition, it is what is made. The kernel object that a
+    // condition asks is not the operation's.
     fn with_head(self, head: Word) -> Line
         ensures { result ≡ with_head self head }
     {
-        let times = if matches!(self.head, Word::Times) && self.number <= 10_000 {
-            self.number as u16
-        } else {
-            1
-        };
         let kind = match head {
             Word::Object(kind) => kind,
             _ => self.kind,
@@ -173,9 +183,35 @@ impl Line {
         Line {
             head,
             kind,
-            times,
+            times: self.count_of_repeats(),
+            condition: self.condition_of(),
+            kernel: Meaning::nothing(),
             number: 0,
             ..self
+        }
+    }
+
+    // How often what comes next is made.
+    fn count_of_repeats(self) -> u16
+        ensures { result ≡ count_of_repeats self }
+    {
+        if !matches!(self.head, Word::Times) {
+            self.times
+        } else if self.number <= 10_000 {
+            self.number as u16
+        } else {
+            1
+        }
+    }
+
+    // What is asked before the operation, behind the words of a condition.
+    fn condition_of(self) -> Condition
+        ensures { result ≡ condition_of self }
+    {
+        match self.head {
+            Word::If => Condition::If(self.kernel.number),
+            Word::Unless => Condition::Unless(self.kernel.number),
+            _ => self.condition,
         }
     }
 
@@ -274,6 +310,7 @@ pub fn form_of(field: Field, line: Line) -> Form
     match field {
         Field::Head
         | Field::Repeated
+        | Field::Conditional
         | Field::Kind
         | Field::Priority
         | Field::How

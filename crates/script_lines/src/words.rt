@@ -61,8 +61,10 @@ pub enum Want {
 pub enum Field {
     /// What the line is.
     Head,
-    /// The operation behind `times` and its count.
+    /// The operation behind `times` and its count, or its condition.
     Repeated,
+    /// The operation behind a condition.
+    Conditional,
     /// A new name.
     Fresh(Tally),
     /// A name that stands.
@@ -115,11 +117,12 @@ pub enum Class {
     Routine,
     Client,
     Done,
-    /// Operations, those that make a name, those of routines alone, and what repeats one.
+    /// Operations, those that make a name, those of routines alone, what repeats one, and what asks before one.
     Operation,
     Making,
     Own,
     Times,
+    Condition,
     /// The options of callbacks, by their order.
     Option(u8),
     /// What stands behind a group's name among them.
@@ -157,6 +160,7 @@ pub enum Word {
     CancelIo,
     IssueIo,
     CompleteIo,
+    CompleteNext,
     Let,
     Close,
     BeginWait,
@@ -170,11 +174,14 @@ pub enum Word {
     ReleaseSemaphore,
     Release,
     Acquire,
+    TryAcquire,
     Advance,
     MayRunLong,
     Disassociate,
     OnReturn,
     Times,
+    If,
+    Unless,
     Context,
     In,
     OfPriority,
@@ -219,6 +226,7 @@ macro_rules! words {
             (Word::CancelIo) (Class::Operation) b"cancel-io" [Field::Name(Want::Io)];
             (Word::IssueIo) (Class::Making) b"issue-io" [Field::Name(Want::Io), Field::Fresh(Tally::Locals)];
             (Word::CompleteIo) (Class::Operation) b"complete-io" [Field::Name(Want::Operation), Field::Small, Field::Large];
+            (Word::CompleteNext) (Class::Operation) b"complete-next" [Field::Name(Want::Io), Field::Small, Field::Large];
             (Word::Let) (Class::Making) b"let" [Field::Fresh(Tally::Locals), Field::Kind, Field::Routine, Field::Options(1)];
             (Word::Close) (Class::Operation) b"close" [Field::Name(Want::Object)];
             (Word::BeginWait) (Class::Operation) b"wait" [Field::Name(Want::Object), Field::How];
@@ -232,11 +240,14 @@ macro_rules! words {
             (Word::ReleaseSemaphore) (Class::Operation) b"release-semaphore" [Field::Name(Want::Semaphore), Field::Units];
             (Word::Release) (Class::Operation) b"release" [Field::Name(Want::Lock)];
             (Word::Acquire) (Class::Operation) b"acquire" [Field::Name(Want::Kernel)];
+            (Word::TryAcquire) (Class::Operation) b"try-acquire" [Field::Name(Want::Kernel)];
             (Word::Advance) (Class::Operation) b"advance" [Field::Time];
             (Word::MayRunLong) (Class::Own) b"may-run-long" [];
             (Word::Disassociate) (Class::Own) b"disassociate" [];
             (Word::OnReturn) (Class::Own) b"on-return" [Field::Name(Want::Kernel), Field::UnitsOption];
             (Word::Times) (Class::Times) b"times" [Field::Count, Field::Repeated];
+            (Word::If) (Class::Condition) b"if" [Field::Name(Want::Kernel), Field::Conditional];
+            (Word::Unless) (Class::Condition) b"unless" [Field::Name(Want::Kernel), Field::Conditional];
             (Word::Context) (Class::Option(1)) b"context" [Field::Large, Field::Options(2)];
             (Word::In) (Class::Option(2)) b"in" [Field::Name(Want::Pool), Field::Options(3)];
             (Word::OfPriority) (Class::Option(3)) b"priority" [Field::Priority, Field::Options(4)];
@@ -278,7 +289,7 @@ macro_rules! all_words {
 }
 
 /// All words.
-pub static WORDS: [Word; 63] = words!(all_words, ());
+pub static WORDS: [Word; 67] = words!(all_words, ());
 
 // What is known of a word.
 struct Known {

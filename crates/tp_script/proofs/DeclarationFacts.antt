@@ -3,6 +3,8 @@ use Rattle.std.proofs.Common.{◌≡◌, ℕ, zero, suc, ◌+◌, Bool, true, fa
 use Rattle.tp_base.specs.declared.answers.Answer.{Answer}
 use Rattle.tp_base.specs.declared.calls.Call.TheVariants as call
 use Rattle.script_lines.specs.declared.judge.Known.{Known}
+use Rattle.script_lines.specs.declared.line.Condition.{Condition}
+use Rattle.script_lines.specs.declared.line.Condition.TheVariants.{Always, If, Unless}
 use Rattle.script_lines.specs.declared.line.Line.{Line}
 use Rattle.script_lines.specs.declared.state.Place.{Place}
 use Rattle.script_lines.specs.declared.state.Place.TheVariants.{Declarations}
@@ -18,14 +20,20 @@ use Rattle.script_lines.specs.Tokens.{is_head, is_repeated}
 use Rattle.script_lines.proofs.HeadFacts.{MayHead, line_head}
 use Rattle.tp_script.specs.declared.routines.Part.TheVariants.{Client}
 use Rattle.tp_script.specs.declared.routines.Progress.{Progress}
-use Rattle.tp_script.specs.Calls.{acts, begins_wait, begins_wait_call, call_by, calls_in, maximum_of, small_of}
-use Rattle.tp_script.specs.Nexts.{acting, after_at, call_at, first_progress, line_after, line_at, next_at, noted, number_in, progress_after, stepped, waited, with_local}
+use Rattle.tp_script.specs.Calls.{acts, begins_wait, begins_wait_call, call_by, calls_in, is_met, maximum_of, poll_by, small_of}
+use Rattle.tp_script.specs.Nexts.{acting, after_at, call_at, first_progress, line_after, line_at, next_at, noted, number_in, polled, polls, progress_after, stepped, waited, with_local}
 use Rattle.tp_script.specs.Scripts.{IsScript, Reads, first_known, is_local, known_after, words_of}
 
 -- no call of such a line begins a wait
 record IsCalm (head : Word) : Type 0 where
   of_line : begins_wait head ≡ false
   of_calls : (line : Line) (done : ℕ) (locals : List ℕ) → IfSome (call_by line done locals head) (λ made. begins_wait_call made ≡ false)
+
+-- nor does a poll
+poll_calm : (of : Condition) → IfSome (poll_by of) (λ made. begins_wait_call made ≡ false)
+poll_calm Always = tt
+poll_calm (If kernel) = refl
+poll_calm (Unless kernel) = refl
 
 -- words that may begin a line among the declarations
 is_front : Class → Bool
@@ -123,7 +131,7 @@ module _ (lines : List Line) (front : IsFront lines) where
   after_step : (calls : ℕ) (at : Progress) → Declares lines at → AreActing (suc at.op) lines → Declares lines (stepped calls at)
   after_step calls at stands further = by (nat_lt (at.done + 1) calls)
     where
-      by : (b : Bool) → Declares lines (if b then record at { done = at.done + 1 } else record at { op = at.op + 1; done = 0 })
+      by : (b : Bool) → Declares lines (if b then record at { done = at.done + 1; met = false } else record at { op = at.op + 1; done = 0; met = false })
       by true = record { ending = stands.ending; behind = stands.behind }
       by false = record { ending = stands.ending; behind = subst (λ n. AreActing n lines) (let next : suc at.op ≡ at.op + 1 = omega arith in next) further }
 
@@ -135,9 +143,17 @@ module _ (lines : List Line) (front : IsFront lines) where
       by false = after_step (calls_in line) at stands further
 
   after_line : (line : Line) (at : Progress) (answer : Answer) → IsCalm line.head → Declares lines at → AreActing (suc at.op) lines → Declares lines (line_after line at answer)
-  after_line line at answer calm stands further =
-      subst (λ (waits : Bool). Declares lines (if waits then waited (calls_in line) at answer else stepped (calls_in line) (noted line at answer))) (sym calm.of_line)
-      (after_noted line at answer stands further)
+  after_line line at answer calm stands further = by (polls line at)
+    where
+      behind_poll : (b : Bool) → Declares lines (if b then record at { met = true } else stepped (calls_in line) at)
+      behind_poll true = record { ending = stands.ending; behind = stands.behind }
+      behind_poll false = after_step (calls_in line) at stands further
+
+      by : (b : Bool) → Declares lines (if b then polled line at answer else (if begins_wait line.head then waited (calls_in line) at answer else stepped (calls_in line) (noted line at answer)))
+      by true = behind_poll (is_met line.condition answer)
+      by false =
+          subst (λ (waits : Bool). Declares lines (if waits then waited (calls_in line) at answer else stepped (calls_in line) (noted line at answer))) (sym calm.of_line)
+          (after_noted line at answer stands further)
 
   after_answer : (at : Progress) (answer : Answer) → Declares lines at → Declares lines (progress_after lines (Client 1) at answer)
   after_answer at answer stands = by (line_at lines (Client 1) at.op) refl
@@ -155,9 +171,13 @@ module _ (lines : List Line) (front : IsFront lines) where
     where
       by : (found : Option Line) → line_at lines (Client 1) at.op ≡ found → IfSome (option_and_then (λ line. call_at line at) found) (λ made. begins_wait_call made ≡ false)
       by None e = tt
-      by (Some line) e =
-          subst (λ (ends : Bool). IfSome (if ends then Some call.End else call_by line at.done at.locals line.head) (λ made. begins_wait_call made ≡ false)) (sym stands.ending)
-          ((at_front at line stands e).0.of_calls line at.done at.locals)
+      by (Some line) e = by_poll (polls line at)
+        where
+          by_poll : (b : Bool) → IfSome (if b then poll_by line.condition else (if at.ending then Some call.End else call_by line at.done at.locals line.head)) (λ made. begins_wait_call made ≡ false)
+          by_poll true = poll_calm line.condition
+          by_poll false =
+              subst (λ (ends : Bool). IfSome (if ends then Some call.End else call_by line at.done at.locals line.head) (λ made. begins_wait_call made ≡ false)) (sym stands.ending)
+              ((at_front at line stands e).0.of_calls line at.done at.locals)
 
 -- client 1 of a script begins no wait, whatever the answers are
 pub first_never_waits : (text : List ℕ) (lines : List Line) → IsScript text lines → (answers : List Answer)

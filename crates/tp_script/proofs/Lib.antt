@@ -1,5 +1,6 @@
 pub mod ClientFacts
 pub mod DeclarationFacts
+mod Examples
 mod Parsing
 mod Places
 mod Unique

@@ -1,9 +1,11 @@
 -- The calls that the lines of a script make.
-use Rattle.std.specs.Prelude.{ℕ, ◌+◌, ◌-◌, Bool, true, false, List, Option, Some, None, nat_eq, nat_le, nat_lt, slice_index, ◌&&◌, if◌then◌else◌}
+use Rattle.std.specs.Prelude.{ℕ, ◌+◌, ◌-◌, Bool, true, false, List, Option, Some, None, nat_eq, nat_le, nat_lt, not, slice_index, ◌&&◌, if◌then◌else◌}
 use Rattle.tp_base.specs.Ranges.{count_most}
 use Rattle.tp_base.specs.Timers.{clock_end}
 use Rattle.tp_base.specs.declared.answers.ActionKind.{ActionKind}
 use Rattle.tp_base.specs.declared.answers.ActionKind.TheVariants as action
+use Rattle.tp_base.specs.declared.answers.Answer.{Answer}
+use Rattle.tp_base.specs.declared.answers.Answer.TheVariants as answer
 use Rattle.tp_base.specs.declared.calls.Call.{Call}
 use Rattle.tp_base.specs.declared.calls.Call.TheVariants as call
 use Rattle.tp_base.specs.declared.calls.Environ.{Environ}
@@ -14,6 +16,8 @@ use Rattle.tp_base.specs.declared.calls.Lock.TheVariants as lock
 use Rattle.tp_base.specs.declared.ids.KernelId.{KernelId}
 use Rattle.tp_base.specs.declared.ids.ObjectId.{ObjectId}
 use Rattle.tp_base.specs.declared.ids.RoutineId.{RoutineId}
+use Rattle.script_lines.specs.declared.line.Condition.{Condition}
+use Rattle.script_lines.specs.declared.line.Condition.TheVariants.{Always, If, Unless}
 use Rattle.script_lines.specs.declared.line.Line.{Line}
 use Rattle.script_lines.specs.declared.line.Meaning.{Meaning}
 use Rattle.script_lines.specs.declared.words.Sort.{Sort}
@@ -119,6 +123,7 @@ call_by line done locals word.StartIo = Some (call.StartIo (object_at line local
 call_by line done locals word.CancelIo = Some (call.CancelIo (object_at line locals))
 call_by line done locals word.IssueIo = Some (call.IssueIo (object_at line locals))
 call_by line done locals word.CompleteIo = Some (call.CompleteIo (number_at line.object locals) (small_of line.before) line.number)
+call_by line done locals word.CompleteNext = Some (call.CompleteNext (object_at line locals) (small_of line.before) line.number)
 call_by line done locals word.Let = Some (call.Create line.kind (routine_by line) line.number (environ_by line))
 call_by line done locals word.Close = Some (call.CloseObject (kind_of_sort line.object.sort) (object_at line locals))
 call_by line done locals word.BeginWait = Some (call.BeginWait (kind_of_sort line.object.sort) (object_at line locals) line.cancels)
@@ -132,6 +137,7 @@ call_by line done locals word.ResetEvent = Some (call.ResetEvent (kernel_of line
 call_by line done locals word.ReleaseSemaphore = Some (call.ReleaseSemaphore (kernel_of line) (units_of line.number))
 call_by line done locals word.Release = Some (call.ReleaseLock (lock_of_sort line.kernel.sort) (kernel_of line))
 call_by line done locals word.Acquire = Some (call.BeginAcquire (kernel_of line))
+call_by line done locals word.TryAcquire = Some (call.TryAcquire (kernel_of line))
 call_by line done locals word.Advance = Some (call.Advance (ticks_of line.number))
 call_by line done locals word.MayRunLong = Some call.MayRunLong
 call_by line done locals word.Disassociate = Some call.Disassociate
@@ -141,11 +147,29 @@ call_by line done locals _ = None
 abbrev pub call_of : Line → ℕ → List ℕ → Option Call
 call_of line done locals = call_by line done locals line.head
 
+-- whether a kernel object is asked before the line's operation
+abbrev pub is_asked : Condition → Bool
+is_asked Always = false
+is_asked (If kernel) = true
+is_asked (Unless kernel) = true
+
+-- the poll that asks it
+abbrev pub poll_by : Condition → Option Call
+poll_by Always = None
+poll_by (If kernel) = Some (call.TryAcquire (record { 0 = kernel }))
+poll_by (Unless kernel) = Some (call.TryAcquire (record { 0 = kernel }))
+
+-- whether the operation is made behind this answer to the poll
+abbrev pub is_met : Condition → Answer → Bool
+is_met (If kernel) (answer.Flag taken) = taken
+is_met (Unless kernel) (answer.Flag taken) = not taken
+is_met _ _ = false
+
 abbrev pub counted : Bool → ℕ
 counted true = 1
 counted false = 0
 
--- how many calls the line makes, a wait and its end as one
+-- how many calls the line makes, a wait and its end as one, and a poll and what it is asked for as one
 abbrev pub calls_by : Line → Word → ℕ
 calls_by line word.Pool = 1 + counted line.maximum + counted line.minimum
 calls_by line _ = line.times

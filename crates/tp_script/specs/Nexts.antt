@@ -1,5 +1,5 @@
 -- The calls of a script's parts, one after another.
-use Rattle.std.specs.Prelude.{ℕ, ◌+◌, ◌-◌, Bool, true, false, List, [], ◌∷◌, ◌++◌, Option, Some, None, fold, length, nat_eq, nat_le, nat_lt, option_and_then, replicate, slice_get, slice_set, ◌&&◌, if◌then◌else◌}
+use Rattle.std.specs.Prelude.{ℕ, ◌+◌, ◌-◌, Bool, true, false, List, [], ◌∷◌, ◌++◌, Option, Some, None, fold, length, nat_eq, nat_le, nat_lt, not, option_and_then, replicate, slice_get, slice_set, ◌&&◌, if◌then◌else◌}
 use Rattle.tp_base.specs.declared.answers.Answer.{Answer}
 use Rattle.tp_base.specs.declared.answers.Answer.TheVariants as answer
 use Rattle.tp_base.specs.declared.calls.Call.{Call}
@@ -12,7 +12,7 @@ use Rattle.tp_script.specs.declared.routines.Part.TheVariants.{Client, Routine}
 use Rattle.tp_script.specs.declared.routines.Progress.{Progress}
 use Rattle.tp_script.specs.declared.script.Opening.{Opening}
 use Rattle.tp_script.specs.declared.script.Opening.TheVariants as opening
-use Rattle.tp_script.specs.Calls.{acts, begins_wait, call_of, calls_in}
+use Rattle.tp_script.specs.Calls.{acts, begins_wait, call_of, calls_in, is_asked, is_met, poll_by}
 use Rattle.tp_script.specs.Scripts.{is_local}
 
 -- whether a part of the script begins with such a line
@@ -48,9 +48,13 @@ acting line = if acts line.head then Some line else None
 abbrev pub line_at : List Line → Part → ℕ → Option Line
 line_at lines part op = option_and_then (λ place. option_and_then acting (slice_get lines (place + op))) (place_of lines part)
 
--- the call that follows: the end of a wait that was begun, or the next call of the line
+-- whether the poll of the line's condition comes next: it comes before each time that the operation is made
+abbrev pub polls : Line → Progress → Bool
+polls line at = is_asked line.condition && not at.met
+
+-- the call that follows: that poll, the end of a wait that was begun, or the next call of the line
 abbrev pub call_at : Line → Progress → Option Call
-call_at line at = if at.ending then Some call.End else call_of line at.done at.locals
+call_at line at = if polls line at then poll_by line.condition else (if at.ending then Some call.End else call_of line at.done at.locals)
 
 abbrev pub next_at : List Line → Part → Progress → Option Call
 next_at lines part at = option_and_then (λ line. call_at line at) (line_at lines part at.op)
@@ -79,9 +83,13 @@ with_local locals made number = if nat_le 1 made && nat_le made 32 then slice_se
 abbrev pub noted : Line → Progress → Answer → Progress
 noted line at answer = if is_local line.head then record at { locals = with_local at.locals line.made (number_in answer) } else at
 
--- behind one call of a line, which it makes so often
+-- behind one call of a line, which it makes so often; before the next one its condition is asked anew
 abbrev pub stepped : ℕ → Progress → Progress
-stepped calls at = if nat_lt (at.done + 1) calls then record at { done = at.done + 1 } else record at { op = at.op + 1; done = 0 }
+stepped calls at = if nat_lt (at.done + 1) calls then record at { done = at.done + 1; met = false } else record at { op = at.op + 1; done = 0; met = false }
+
+-- behind the poll: the operation is made, or this time it isn't
+abbrev pub polled : Line → Progress → Answer → Progress
+polled line at answer = if is_met line.condition answer then record at { met = true } else stepped (calls_in line) at
 
 -- behind a call that begins a wait, and behind each end that was looked for
 abbrev pub waited : ℕ → Progress → Answer → Progress
@@ -91,7 +99,10 @@ waited calls at answer =
     else (if is_refusal answer then stepped calls at else record at { ending = true })
 
 abbrev pub line_after : Line → Progress → Answer → Progress
-line_after line at answer = if begins_wait line.head then waited (calls_in line) at answer else stepped (calls_in line) (noted line at answer)
+line_after line at answer =
+    if polls line at
+    then polled line at answer
+    else (if begins_wait line.head then waited (calls_in line) at answer else stepped (calls_in line) (noted line at answer))
 
 abbrev pub after_at : Option Line → Progress → Answer → Progress
 after_at None at answer = at
@@ -103,7 +114,7 @@ progress_after lines part at answer = after_at (line_at lines part at.op) at ans
 
 -- where a part begins
 abbrev pub first_progress : Progress
-first_progress = record { op = 0; done = 0; ending = false; locals = replicate 32 0 }
+first_progress = record { op = 0; done = 0; met = false; ending = false; locals = replicate 32 0 }
 
 -- the call of a part that follows after its calls had these answers, or none
 abbrev pub next_call : List Line → Part → List Answer → Option Call

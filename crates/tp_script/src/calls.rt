@@ -3,10 +3,10 @@
 ghost use Rattle.std.specs.Prelude.{◌≡◌, ◌≤◌, ◌<◌, ◌^◌, IfSome};
 ghost use Rattle.tp_base.specs.Ranges.{IsCallInRange, IsDueInRange, IsEnvironInRange, IsNamedInRange, IsRoutineInRange, count_most};
 ghost use Rattle.tp_base.specs.Timers.{clock_end};
-ghost use Rattle.tp_script.specs.Calls.{IsOfPart, action_of_sort, acts, armed_by, begins_wait, call_of, calls_in, environ_by, id_of, kernel_of, kind_of_sort, level_of, local_number, lock_of_sort, maximum_of, number_at, object_at, pool_call, routine_by, small_of, ticks_of, units_of};
+ghost use Rattle.tp_script.specs.Calls.{IsOfPart, action_of_sort, acts, armed_by, begins_wait, call_of, calls_in, environ_by, id_of, is_asked, is_met, kernel_of, kind_of_sort, level_of, local_number, lock_of_sort, maximum_of, number_at, object_at, poll_by, pool_call, routine_by, small_of, ticks_of, units_of};
 
-use script_lines::{Line, Meaning, Sort, Word};
-use tp_base::answers::ActionKind;
+use script_lines::{Condition, Line, Meaning, Sort, Word};
+use tp_base::answers::{ActionKind, Answer};
 use tp_base::calls::{CLOCK_END, Call, Environ, Kind, Lock};
 use tp_base::ids::{GroupId, KernelId, ObjectId, PoolId, RoutineId};
 
@@ -84,6 +84,11 @@ pub fn call_of(line: &Line, done: u32, locals: &[u64; 32]) -> Option<Call>
             error: small_of(line.before),
             bytes: same(line.number),
         }),
+        Word::CompleteNext => Some(Call::CompleteNext {
+            object: object_at(*line, locals),
+            error: small_of(line.before),
+            bytes: same(line.number),
+        }),
         Word::Let => Some(Call::Create {
             kind: line.kind,
             routine: routine_by(*line),
@@ -133,6 +138,9 @@ pub fn call_of(line: &Line, done: u32, locals: &[u64; 32]) -> Option<Call>
             kernel: kernel_of(*line),
         }),
         Word::Acquire => Some(Call::BeginAcquire {
+            kernel: kernel_of(*line),
+        }),
+        Word::TryAcquire => Some(Call::TryAcquire {
             kernel: kernel_of(*line),
         }),
         Word::Advance => Some(Call::Advance {
@@ -194,7 +202,39 @@ fn pool_call(line: Line, done: u32) -> Call
     }
 }
 
-/// How many calls a line makes, a wait and its end as one.
+/// Whether a kernel object is asked before the line's operation.
+pub fn is_asked(condition: Condition) -> bool
+    ensures { result ≡ is_asked condition }
+{
+    !matches!(condition, Condition::Always)
+}
+
+/// The poll that asks it.
+pub fn poll_by(condition: Condition) -> Option<Call>
+    ensures value { result ≡ poll_by condition }
+    ensures in_range { IfSome result IsCallInRange }
+    ensures of_part { IfSome result IsOfPart }
+{
+    match condition {
+        Condition::Always => None,
+        Condition::If(kernel) | Condition::Unless(kernel) => Some(Call::TryAcquire {
+            kernel: KernelId(u32::from(kernel)),
+        }),
+    }
+}
+
+/// Whether the operation is made behind this answer to the poll.
+pub fn is_met(condition: Condition, answer: Answer) -> bool
+    ensures { result ≡ is_met condition answer }
+{
+    match (condition, answer) {
+        (Condition::If(_), Answer::Flag { value }) => value,
+        (Condition::Unless(_), Answer::Flag { value }) => !value,
+        _ => false,
+    }
+}
+
+/// How many calls a line makes, a wait and its end as one, and a poll and what it is asked for as one.
 pub fn calls_in(line: Line) -> u32
     ensures { result ≡ calls_in line }
 {

@@ -25,6 +25,8 @@ pub struct Progress {
     pub op: u32,
     /// How many of the calls of that place were made.
     pub done: u32,
+    /// The condition of that place was asked and is met, and its operation is to come.
+    pub met: bool,
     /// The wait of that place is begun.
     pub ending: bool,
     /// What the part's local names stand for, in their order.
@@ -39,6 +41,7 @@ impl Progress {
         Progress {
             op: 0,
             done: 0,
+            met: false,
             ending: false,
             locals: [0; 32],
         }

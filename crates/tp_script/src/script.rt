@@ -12,9 +12,9 @@ ghost use Rattle.tp_script.specs.Scripts.{IsFaultIn, IsScript, is_local};
 ghost use Rattle.tp_base.specs.Ranges.{IsCallInRange};
 ghost use Rattle.tp_script.specs.Calls.{IsOfPart};
 ghost use Rattle.tp_script.specs.Machines.{HasFewClients, NeverWaitsAtFirst};
-ghost use Rattle.tp_script.specs.Nexts.{call_at, clients_of, line_after, line_at, number_in, numbered_place, opens, place_of, places_behind, stepped, waited};
+ghost use Rattle.tp_script.specs.Nexts.{call_at, clients_of, line_after, line_at, number_in, numbered_place, opens, place_of, places_behind, polled, polls, stepped, waited};
 
-use crate::calls::{acts, begins_wait, call_of, calls_in};
+use crate::calls::{acts, begins_wait, call_of, calls_in, is_asked, is_met, poll_by};
 use crate::fault::ScriptFault;
 use crate::parse::{is_local, read_lines};
 use crate::routines::{Part, Progress, Routines};
@@ -203,18 +203,28 @@ fn numbered_place(places: &[u32], number: u32) -> Option<u32>
     places.get(number as usize - 1).copied()
 }
 
-// The end of a wait that was begun, or the next call of the line.
+// The poll of the line's condition, the end of a wait that was begun, or the next call of the line.
 #[inline(always)]
 fn call_at(line: &Line, at: &Progress) -> Option<Call>
     ensures value { result ≡ call_at line.now at.now }
     ensures in_range { IfSome result IsCallInRange }
     ensures of_part { IfSome result IsOfPart }
 {
-    if at.ending {
+    if polls(line, at) {
+        poll_by(line.condition)
+    } else if at.ending {
         Some(Call::End)
     } else {
         call_of(line, at.done, &at.locals)
     }
+}
+
+// Whether the poll of the line's condition comes next.
+#[inline(always)]
+fn polls(line: &Line, at: &Progress) -> bool
+    ensures { result ≡ polls line.now at.now }
+{
+    is_asked(line.condition) && !at.met
 }
 
 // Goes on behind the answer to the line's call.
@@ -222,13 +232,27 @@ fn line_after(line: &Line, at: &mut Progress, answer: Answer)
     requires { at.old.op + 1 < 2 ^ 32 }
     ensures { at.new ≡ line_after line.now at.old answer }
 {
-    if begins_wait(line.head) {
+    if polls(line, at) {
+        polled(line, at, answer);
+    } else if begins_wait(line.head) {
         waited(calls_in(*line), at, answer);
     } else {
         // A name that the line makes stands for the number in the answer.
         if is_local(line.head) && 1 <= line.made && line.made <= 32 {
             at.locals[usize::from(line.made - 1)] = number_in(answer);
         }
+        stepped(calls_in(*line), at);
+    }
+}
+
+// Behind the poll: the operation is made, or this time it isn't.
+fn polled(line: &Line, at: &mut Progress, answer: Answer)
+    requires { at.old.op + 1 < 2 ^ 32 }
+    ensures { at.new ≡ polled line.now at.old answer }
+{
+    if is_met(line.condition, answer) {
+        at.met = true;
+    } else {
         stepped(calls_in(*line), at);
     }
 }
@@ -250,7 +274,7 @@ fn waited(calls: u32, at: &mut Progress, answer: Answer)
     }
 }
 
-// Behind one call of a line, which it makes so often.
+// Behind one call of a line, which it makes so often; before the next one its condition is asked anew.
 fn stepped(calls: u32, at: &mut Progress)
     requires { at.old.op + 1 < 2 ^ 32 }
     ensures { at.new ≡ stepped calls at.old }
@@ -261,6 +285,7 @@ fn stepped(calls: u32, at: &mut Progress)
         at.op += 1;
         at.done = 0;
     }
+    at.met = false;
 }
 
 fn number_in(answer: Answer) -> u64

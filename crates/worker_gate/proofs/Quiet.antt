@@ -9,14 +9,14 @@ use Rattle.tp_base.specs.declared.answers.Outcome.{Outcome}
 use Rattle.tp_base.specs.declared.answers.Outcome.TheVariants as outcome
 use Rattle.tp_base.specs.declared.answers.Refusal.{Refusal}
 use Rattle.tp_base.specs.declared.answers.Refusal.TheVariants.{AlreadyAttached, NoSuch, NotAttached, NotOwner, NotWorker, OverMaximum, Released, StillRunning}
-use Rattle.tp_base.specs.Kernels.{is_event, is_lock, owns}
+use Rattle.tp_base.specs.Kernels.{is_event, is_lock, may_take, owns}
 use Rattle.tp_base.specs.declared.calls.Call.{Call}
 use Rattle.tp_base.specs.declared.calls.Kind.TheVariants as kind
 use Rattle.tp_base.specs.declared.plans.Trigger.TheVariants as trigger
 use Rattle.tp_model.specs.Kernels.{is_kernel_that}
 use Rattle.tp_base.specs.declared.calls.Call.TheVariants.{CreatePool, ClosePool, SetMaximum, SetMinimum, CreateGroup, CloseGroup, BeginClose, Create, CloseObject, SubmitSimple, SubmitWork}
-use Rattle.tp_base.specs.declared.calls.Call.TheVariants.{SetTimer, SetTimerEx, IsTimerSet, Advance, SetWait, StartIo, IssueIo, CancelIo, CompleteIo}
-use Rattle.tp_base.specs.declared.calls.Call.TheVariants.{BeginWait, BeginAcquire, End, CreateEvent, CreateSemaphore, CreateLock, SetEvent, ResetEvent, ReleaseSemaphore, ReleaseLock}
+use Rattle.tp_base.specs.declared.calls.Call.TheVariants.{SetTimer, SetTimerEx, IsTimerSet, Advance, SetWait, StartIo, IssueIo, CancelIo, CompleteIo, CompleteNext}
+use Rattle.tp_base.specs.declared.calls.Call.TheVariants.{BeginWait, BeginAcquire, TryAcquire, End, CreateEvent, CreateSemaphore, CreateLock, SetEvent, ResetEvent, ReleaseSemaphore, ReleaseLock}
 use Rattle.tp_base.specs.declared.calls.Call.TheVariants.{Attach, Detach, Take, Return, MayRunLong, Disassociate, OnReturn, Finish}
 use Rattle.tp_base.specs.declared.ids.ObjectId.{ObjectId}
 use Rattle.tp_base.specs.declared.ids.Who.{Who}
@@ -24,6 +24,7 @@ use Rattle.tp_base.specs.declared.ids.Who.TheVariants.{Client, Worker}
 use Rattle.tp_base.specs.declared.answers.ActionKind.{ActionKind}
 use Rattle.tp_base.specs.declared.ids.KernelId.{KernelId}
 use Rattle.tp_base.specs.declared.plans.Busy.{Busy}
+use Rattle.tp_base.specs.declared.plans.Change.{Change}
 use Rattle.tp_base.specs.declared.plans.IoStep.{IoStep}
 use Rattle.tp_base.specs.declared.plans.Plan.{Plan}
 use Rattle.tp_base.specs.declared.plans.Plan.TheVariants as plans
@@ -32,13 +33,13 @@ use Rattle.tp_base.specs.declared.rows.ObjectRow.{ObjectRow}
 use Rattle.tp_model.specs.Calls.Clients.{finish, finish_plan, finish_refusals}
 use Rattle.tp_model.specs.Calls.Groups.{create_group_plan, close_group_plan, close_group_refusals}
 use Rattle.tp_model.specs.Calls.InCallback.{disassociate, may_run_long, may_run_long_plan, disassociate_plan, on_return, on_return_plan, on_return_refusals, busy_refusals}
-use Rattle.tp_model.specs.Calls.Io.{start_io, start_io_plan, start_io_refusals, issue_io_plan, cancel_io_plan, complete_io, complete_io_plan, complete_io_refusals, expected_refusals, first_expected, issued_of, operate}
+use Rattle.tp_model.specs.Calls.Io.{start_io, start_io_plan, start_io_refusals, issue_io_plan, cancel_io_plan, complete_io, complete_io_plan, complete_io_refusals, complete_next_plan, complete_next_refusals, expected_refusals, first_expected, first_issued, issued_of, operate}
 use Rattle.tp_model.specs.Calls.Kernels.{kernel_refusals, release_semaphore_refusals, create_event_plan, create_semaphore_plan, create_lock_plan, set_event_plan, reset_event_plan, release_semaphore_plan, release_lock_plan}
 use Rattle.tp_model.specs.Calls.Objects.{create_refusals, close_object_refusals, create_plan, close_object_plan}
 use Rattle.tp_model.specs.Calls.Pools.{pool_refusals, create_pool_plan, close_pool_plan, set_maximum_plan, set_minimum_plan}
 use Rattle.tp_model.specs.Calls.Timers.{set_timer_refusals, advance_refusals, set_timer_plan, set_timer_ex_plan, is_timer_set_plan, advance_plan}
 use Rattle.tp_model.specs.Calls.WaitObjects.{set_wait_refusals, set_wait_plan}
-use Rattle.tp_model.specs.Calls.Waits.{end_wait}
+use Rattle.tp_model.specs.Calls.Waits.{begin_acquire_refusals, end_wait, try_acquire_plan}
 use Rattle.tp_model.specs.Calls.End.{end_plan, end_refusals, end_unless_stalled}
 use Rattle.tp_model.specs.Calls.Work.{submit_work_refusals, submit_simple_refusals, submit, submit_work_plan, submit_simple_plan}
 use Rattle.tp_model.specs.Calls.Workers.{attach_to, pool_to_join, return, return_refusals, attach_plan, detach_plan, take_plan, return_plan}
@@ -115,6 +116,10 @@ complete_io_quiet : (error bytes : ℕ) (row : Option CallbackRow) → IsQuietPl
 complete_io_quiet error bytes None = tt
 complete_io_quiet error bytes (Some c) = refl
 
+poll_quiet : (takes : Bool) (taken kept : Change) → IsQuietPlan (cond takes (plans.Does (answer.Flag true) taken) (plans.Does (answer.Flag false) kept))
+poll_quiet true taken kept = refl
+poll_quiet false taken kept = refl
+
 none_found : {X : Type 0} (test : X → Bool) (xs : List X) → list_any test xs ≡ false → find test xs ≡ None
 none_found test [] none = refl
 none_found test (x ∷ xs) none =
@@ -150,8 +155,8 @@ finish_quiet (Worker number) = tt
 
 plan_quiet : (w : World) (left : ℕ) (who : Who) (made : Call) → begins_wait made ≡ false → is_in_wait w who ≡ false → is_held w who ≡ true → IsQuietPlan (plan w left who made)
 unfolding create_pool_plan close_pool_plan set_maximum_plan set_minimum_plan create_group_plan close_group_plan create_plan close_object_plan submit_work_plan submit_simple_plan
-    set_timer_plan set_timer_ex_plan is_timer_set_plan advance_plan set_wait_plan start_io_plan issue_io_plan cancel_io_plan complete_io_plan
-    end_plan create_event_plan create_semaphore_plan create_lock_plan set_event_plan reset_event_plan release_semaphore_plan release_lock_plan
+    set_timer_plan set_timer_ex_plan is_timer_set_plan advance_plan set_wait_plan start_io_plan issue_io_plan cancel_io_plan complete_io_plan complete_next_plan
+    try_acquire_plan end_plan create_event_plan create_semaphore_plan create_lock_plan set_event_plan reset_event_plan release_semaphore_plan release_lock_plan
     detach_plan take_plan return_plan may_run_long_plan disassociate_plan on_return_plan finish_plan
 plan_quiet w left who (BeginWait kind object cancel) calm free held = absurd cc
 plan_quiet w left who (BeginAcquire kernel) calm free held = absurd cc
@@ -169,6 +174,8 @@ plan_quiet w left who (StartIo object) calm free held = quiet_unless (start_io_r
 plan_quiet w left who (IssueIo object) calm free held = quiet_unless (expected_refusals w who object.0) _ (operate_quiet answer.Operation _ (first_expected w object.0) (λ n. refl))
 plan_quiet w left who (CancelIo object) calm free held = quiet_unless (expected_refusals w who object.0) _ (operate_quiet answer.Cancelled _ (first_expected w object.0) (λ n. refl))
 plan_quiet w left who (CompleteIo callback error bytes) calm free held = quiet_unless (complete_io_refusals w who callback) _ (complete_io_quiet error bytes (issued_of w callback))
+plan_quiet w left who (CompleteNext object error bytes) calm free held = quiet_unless (complete_next_refusals w who object.0) _ (complete_io_quiet error bytes (first_issued w object.0))
+plan_quiet w left who (TryAcquire kernel) calm free held = quiet_unless (begin_acquire_refusals w who kernel.0) _ (poll_quiet (is_kernel_that (may_take who) w kernel.0) _ _)
 plan_quiet w left who CreatePool calm free held = quiet_unless (make_refusals w who [] w.limits.pools (length w.pools)) _ refl
 plan_quiet w left who (ClosePool pool) calm free held = quiet_unless (pool_refusals w who pool.0) _ refl
 plan_quiet w left who (SetMaximum pool value) calm free held = quiet_unless (pool_refusals w who pool.0) _ refl
