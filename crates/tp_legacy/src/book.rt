@@ -10,7 +10,7 @@ ghost use Rattle.tp_model.specs.Laws.{KeepsLaws};
 ghost use Rattle.tp_base.specs.declared.ids.Who.{Who as Actor};
 ghost use Rattle.tp_legacy.specs.Growing.{GoesOn, IsNewObject, IsNext};
 ghost use Rattle.tp_legacy.specs.Kept.{stand_of, IsKept};
-ghost use Rattle.tp_legacy.specs.Legacy.{comes_to, cost_of, kind_of, legacy_step, make_calls, make_told, opening, rearmed_by, stood, IsLegacyCallInRange, IsSetting};
+ghost use Rattle.tp_legacy.specs.Legacy.{comes_to, cost_of, kind_of, legacy_step, make_calls, make_told, opening, rearmed_by, set_calls, set_told, stood, IsLegacyCallInRange, IsSetting};
 ghost use Rattle.tp_legacy.specs.Old.{Stand};
 ghost use Rattle.tp_legacy.specs.Whole.{of_the_row, outcomes_of, AreDone};
 ghost use Rattle.tp_legacy.specs.declared.LegacyCall.{LegacyCall as Made};
@@ -437,6 +437,24 @@ fn make_and_set<B: Recorded>(
     let Some(number) = number_made(&made) else {
         return Err(made);
     };
+    set_or_close(book, who, number, how)
+}
+
+// Sets an object of this number, and closes it again where that is refused.
+fn set_or_close<B: Recorded>(
+    book: &mut B,
+    who: Who,
+    number: u32,
+    how: Setting,
+) -> Result<ObjectId, Outcome>
+    requires legal { IsLegal (B.recording book.old).limits (B.recording book.old).capacity (B.recording book.old).history }
+    requires number { number ≤ 65535 }
+    requires how { IsSetting how }
+    ensures calls { B.recording book.new ≡ all_made (B.recording book.old) (set_calls (B.recording book.old) who how number) }
+    ensures told { result ≡ set_told (B.recording book.old) who how number }
+    ensures goes_on { GoesOn (B.recording book.old) (B.recording book.new) }
+    ensures object { IfOk result (λ object. object.0 ≡ number) }
+{
     let object = ObjectId(number);
     let told = ask(book, who, how.set(object));
     if is_refused(&told) {

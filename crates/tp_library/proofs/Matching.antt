@@ -9,8 +9,8 @@ use Rattle.tp_base.specs.declared.answers.Refusal.{Refusal}
 use Rattle.tp_base.specs.declared.answers.Refusal.TheVariants.{NotOwner, OverMaximum}
 use Rattle.tp_base.specs.declared.calls.Call.{Call}
 use Rattle.tp_base.specs.declared.calls.Call.TheVariants.{CreatePool, ClosePool, SetMaximum, SetMinimum, CreateGroup, CloseGroup, BeginClose, Create, CloseObject, SubmitSimple, SubmitWork}
-use Rattle.tp_base.specs.declared.calls.Call.TheVariants.{SetTimer, SetTimerEx, IsTimerSet, Advance, SetWait, StartIo, IssueIo, CancelIo, CompleteIo}
-use Rattle.tp_base.specs.declared.calls.Call.TheVariants.{BeginWait, BeginAcquire, End, CreateEvent, CreateSemaphore, CreateLock, SetEvent, ResetEvent, ReleaseSemaphore, ReleaseLock}
+use Rattle.tp_base.specs.declared.calls.Call.TheVariants.{SetTimer, SetTimerEx, IsTimerSet, Advance, SetWait, StartIo, IssueIo, CancelIo, CompleteIo, CompleteNext}
+use Rattle.tp_base.specs.declared.calls.Call.TheVariants.{BeginWait, BeginAcquire, TryAcquire, End, CreateEvent, CreateSemaphore, CreateLock, SetEvent, ResetEvent, ReleaseSemaphore, ReleaseLock}
 use Rattle.tp_base.specs.declared.calls.Call.TheVariants.{Attach, Detach, Take, Return, MayRunLong, Disassociate, OnReturn, Finish}
 use Rattle.tp_base.specs.declared.calls.Kind.TheVariants.{Timer}
 use Rattle.tp_base.specs.declared.ids.KernelId.{KernelId}
@@ -23,6 +23,7 @@ use Rattle.tp_base.specs.declared.plans.Change.TheVariants as change
 use Rattle.tp_base.specs.declared.plans.Idle.{Idle}
 use Rattle.tp_base.specs.declared.plans.IoStep.{IoStep}
 use Rattle.tp_base.specs.declared.plans.IoStep.TheVariants.{Issue, GiveUp}
+use Rattle.tp_base.specs.declared.plans.KernelChange.TheVariants as kernel
 use Rattle.tp_base.specs.declared.plans.Plan.{Plan}
 use Rattle.tp_base.specs.declared.plans.Plan.TheVariants as plans
 use Rattle.tp_base.specs.declared.plans.Trigger.TheVariants as trigger
@@ -31,13 +32,13 @@ use Rattle.tp_base.specs.declared.rows.ObjectRow.{ObjectRow}
 use Rattle.tp_model.specs.Calls.Clients.{finish, finish_plan, finish_refusals}
 use Rattle.tp_model.specs.Calls.Groups.{create_group_plan, close_group_plan, close_group_refusals, begin_close_plan, begin_close_refusals}
 use Rattle.tp_model.specs.Calls.InCallback.{busy_refusals, disassociate, disassociate_plan, may_run_long, may_run_long_plan, on_return, on_return_plan, on_return_refusals}
-use Rattle.tp_model.specs.Calls.Io.{start_io, start_io_plan, start_io_refusals, expected_refusals, operate, issue_io_plan, cancel_io_plan, complete_io, complete_io_plan, complete_io_refusals}
+use Rattle.tp_model.specs.Calls.Io.{start_io, start_io_plan, start_io_refusals, expected_refusals, operate, issue_io_plan, cancel_io_plan, complete_io, complete_io_plan, complete_io_refusals, complete_next_plan, complete_next_refusals}
 use Rattle.tp_model.specs.Calls.Kernels.{create_event_plan, create_semaphore_plan, create_lock_plan, kernel_refusals, set_event_plan, reset_event_plan, release_semaphore_plan, release_semaphore_refusals, release_lock_plan}
 use Rattle.tp_model.specs.Calls.Objects.{create_plan, create_refusals, close_object_plan, close_object_refusals}
 use Rattle.tp_model.specs.Calls.Pools.{create_pool_plan, pool_refusals, close_pool_plan, set_maximum_plan, set_minimum_plan}
 use Rattle.tp_model.specs.Calls.Timers.{set_timer_plan, set_timer_ex_plan, set_timer_refusals, is_timer_set_plan, advance_plan, advance_refusals}
 use Rattle.tp_model.specs.Calls.WaitObjects.{set_wait_plan, set_wait_refusals}
-use Rattle.tp_model.specs.Calls.Waits.{begin_wait_plan, begin_wait_refusals, begin_acquire_plan, begin_acquire_refusals}
+use Rattle.tp_model.specs.Calls.Waits.{begin_wait_plan, begin_wait_refusals, begin_acquire_plan, begin_acquire_refusals, try_acquire_plan}
 use Rattle.tp_model.specs.Calls.Work.{submit, submit_work_plan, submit_work_refusals, submit_simple_plan, submit_simple_refusals}
 use Rattle.tp_model.specs.Calls.Workers.{attach_plan, attach_refusals, idle_refusals, return_refusals, attach_to, detach, detach_plan, may_leave, return, return_plan, take as take_next, take_callback, take_plan}
 use Rattle.tp_model.specs.Counts.{maximum, next, numbered, running}
@@ -101,6 +102,14 @@ complete_fits : (who : Who) (callback error bytes : ℕ) (c : Option CallbackRow
 complete_fits who callback error bytes None = tt
 complete_fits who callback error bytes (Some c) = tt
 
+next_fits : (object : ObjectId) (error bytes : ℕ) (c : Option CallbackRow) → Matches (CompleteNext object error bytes) (complete_io error bytes c)
+next_fits object error bytes None = tt
+next_fits object error bytes (Some c) = tt
+
+try_fits : (who : Who) (object : KernelId) (may : Bool) → Matches (TryAcquire object) (cond may (plans.Does (answer.Flag true) (change.ChangeKernel object (kernel.Take who))) (plans.Does (answer.Flag false) change.Keep))
+try_fits who object true = tt
+try_fits who object false = tt
+
 attach_fits : (who : Who) (pool : Option ℕ) → Matches Attach (attach_to who pool)
 attach_fits (Worker number) (Some pool) = tt
 attach_fits (Worker number) None = tt
@@ -146,7 +155,7 @@ finish_fits (Worker number) = tt
 -- of every call
 pub plan_matches : (w : World) (left : ℕ) (who : Who) (call : Call) → Matches call (plan w left who call)
 unfolding create_pool_plan close_pool_plan set_maximum_plan set_minimum_plan create_group_plan close_group_plan begin_close_plan create_plan close_object_plan submit_simple_plan submit_work_plan set_timer_plan set_timer_ex_plan is_timer_set_plan
-    advance_plan set_wait_plan start_io_plan issue_io_plan cancel_io_plan complete_io_plan begin_wait_plan begin_acquire_plan create_event_plan create_semaphore_plan create_lock_plan set_event_plan reset_event_plan release_semaphore_plan
+    advance_plan set_wait_plan start_io_plan issue_io_plan cancel_io_plan complete_io_plan complete_next_plan begin_wait_plan begin_acquire_plan try_acquire_plan create_event_plan create_semaphore_plan create_lock_plan set_event_plan reset_event_plan release_semaphore_plan
     release_lock_plan attach_plan detach_plan take_plan return_plan may_run_long_plan disassociate_plan on_return_plan finish_plan
 plan_matches w left who CreatePool = unless CreatePool (make_refusals w who [] w.limits.pools (length w.pools)) _ tt
 plan_matches w left who (ClosePool pool) = unless (ClosePool pool) (pool_refusals w who pool.0) _ tt
@@ -168,8 +177,10 @@ plan_matches w left who (StartIo object) = unless (StartIo object) (start_io_ref
 plan_matches w left who (IssueIo object) = unless (IssueIo object) (expected_refusals w who object.0) _ (operate_fits (IssueIo object) answer.Operation Issue _ (λ number. tt))
 plan_matches w left who (CancelIo object) = unless (CancelIo object) (expected_refusals w who object.0) _ (operate_fits (CancelIo object) answer.Cancelled GiveUp _ (λ number. tt))
 plan_matches w left who (CompleteIo callback error bytes) = unless (CompleteIo callback error bytes) (complete_io_refusals w who callback) _ (complete_fits who callback error bytes _)
+plan_matches w left who (CompleteNext object error bytes) = unless (CompleteNext object error bytes) (complete_next_refusals w who object.0) _ (next_fits object error bytes _)
 plan_matches w left who (BeginWait kind object cancel) = unless (BeginWait kind object cancel) (begin_wait_refusals w who kind object.0) _ tt
 plan_matches w left who (BeginAcquire kernel) = unless (BeginAcquire kernel) (begin_acquire_refusals w who kernel.0) _ tt
+plan_matches w left who (TryAcquire kernel) = unless (TryAcquire kernel) (begin_acquire_refusals w who kernel.0) _ (try_fits who kernel _)
 plan_matches w left who End = end_fits who (plan w left who End) (told_change w left who End)
 plan_matches w left who (CreateEvent manual signalled) = unless (CreateEvent manual signalled) (make_refusals w who [] w.limits.kernels (length w.kernels)) _ tt
 plan_matches w left who (CreateSemaphore initial most) = unless (CreateSemaphore initial most) (make_refusals w who ((nat_lt most initial || (most == 0), OverMaximum initial) ∷ []) w.limits.kernels (length w.kernels)) _ tt

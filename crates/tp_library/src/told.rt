@@ -129,7 +129,7 @@ pub(crate) fn made(call: &Call, answer: &Answer) -> (u64, u32)
         | Answer::Advanced { first, count, .. }
         | Answer::Returned { first, count, .. } => {
             // What is pending as an operation completes was made before.
-            if matches!(call, Call::CompleteIo { .. }) {
+            if matches!(call, Call::CompleteIo { .. } | Call::CompleteNext { .. }) {
                 (0, 0)
             } else {
                 (first, count)

@@ -118,7 +118,7 @@ impl Counts {
 fn completes(call: &Call) -> bool
     ensures { result ≡ is_complete_call call.now }
 {
-    matches!(call, Call::CompleteIo { .. })
+    matches!(call, Call::CompleteIo { .. } | Call::CompleteNext { .. })
 }
 
 fn ends_wait(call: &Call) -> bool
