@@ -380,6 +380,22 @@ fn try_timer_and_wait<B: Recorded>(
     expect_answer(rt, pool.close_wait(seat, ObjectId(2)), freed);
 }
 
+// Two operations of an I/O object, 3: the first completes, and the other is cancelled.
+fn try_completions<B: Recorded>(rt: &impl Abort, pool: &SharedPool<B>, seat: &mut Seat<B>)
+    requires { IsPlayer pool.now seat.old }
+    ensures { IsPlayer pool.now seat.new }
+{
+    let object = ObjectId(3);
+    pool.start_io(seat, object);
+    pool.start_io(seat, object);
+    pool.try_call(seat, Call::IssueIo { object });
+    pool.try_call(seat, Call::IssueIo { object });
+    let completed = pool.complete_next(seat, object, 0, 512);
+    expect_answer(rt, completed, Answer::Queued { first: 2, count: 1 });
+    let cancelled = pool.cancel_io_ex(seat, object);
+    expect_answer(rt, cancelled, Answer::Queued { first: 3, count: 1 });
+}
+
 // An I/O object and a work object.
 fn try_io_and_work<B: Recorded>(
     rt: &impl Abort,
@@ -398,7 +414,9 @@ fn try_io_and_work<B: Recorded>(
     expect_answer(rt, started, Answer::Started { callback: 1 });
     let cancelled = pool.cancel_io(seat, ObjectId(3));
     expect_answer(rt, cancelled, Answer::Cancelled { callback: 1 });
-    expect_answer(rt, pool.close_io(seat, ObjectId(3)), freed);
+    try_completions(rt, pool, seat);
+    let closed = pool.close_io(seat, ObjectId(3));
+    expect_answer(rt, closed, Answer::Closed { later: true });
     let made = pool.create_work(seat, RoutineId(1), 0, env);
     expect_answer(rt, made, Answer::Made { number: 4 });
     expect_answer(rt, pool.close_work(seat, ObjectId(4)), freed);
@@ -417,6 +435,8 @@ fn try_kernels<B: Recorded>(rt: &impl Abort, pool: &SharedPool<B>, seat: &mut Se
         pool.set_event(seat, KernelId(1)),
         Answer::Queued { first, count },
     );
+    let polled = pool.try_acquire(seat, KernelId(1));
+    expect_answer(rt, polled, Answer::Flag { value: true });
     expect_answer(rt, pool.reset_event(seat, KernelId(1)), Answer::Done);
     let (initial, maximum, previous) = (2, 5, 2);
     pool.try_call(seat, Call::CreateSemaphore { initial, maximum });
@@ -503,7 +523,7 @@ fn try_by_name<B: Recorded>(rt: &impl Abort, pool: &SharedPool<B>, client: Seat<
     try_io_and_work(rt, pool, &mut client, env);
     try_kernels(rt, pool, &mut client);
     let submitted = pool.submit_simple(&mut client, RoutineId(1), 0, env);
-    expect_answer(rt, submitted, Answer::Queued { first: 2, count: 1 });
+    expect_answer(rt, submitted, Answer::Queued { first: 4, count: 1 });
     try_callback(rt, pool, &mut worker);
 }
 

@@ -2,3119 +2,2720 @@
 //! tests/drawn_scripts makes this file: a finder of faults that is written apart tells them (tests/find_faults.awk).
 
 pub const DRAWN_SCRIPTS: &str = "\
-22 9 Unexpected
-event e5 manual clear
-mutex m1
-pool p6
-semaphore s7 2147483647 2147483647
-section s0
-section s8
+2 25 Unexpected
+io i4 r2 context 0 long
+semaphore s5 2147483647 1 1
+timer t6 r2 context 0 long
+pool p7 min 4294967295
 routine r1
-times 1 set-minimum p6 4294967295
-let l_234567890abcdefghijklmnopqrstu work r2 context 4 priority low
-reset-event e5
-release-semaphore s7 2
-acquire m1
+on-return s5 7
 done
 routine r2
-done
+don
 routine r0
-let l_234567890abcdefghijklmnopqrstu work r2 context 4 priority low
-may-run-long
+if s5 set-timer-ex t6 9223372036854775807 4 7
+unless s5 set-maximum p7 0
+if s5 complete-next i4 2 2
+if s5 advance 9223372036854775807
 done
 routine r3
-set-event e5
-times 5 rlease m1
-done
-client
-times 10000 set-minimum p6 4
-advance 8
-done
-client
-done
-client
-advance 0
-done
---
-2 clients
-work w11 r10 context 0
-routine r10
-advance 2
-times 6 submit w11
-times 9 close w11
-wait w11 cancel
-done
-client
-close w11
-done
---
-3 clients
-event e18 manual set
-section s21
-event e23 manual clear
-event e24 manual set
-routine r16
-may-run-long
-on-return e18
-times 8 disassociate
-done
-routine r17
-done
-client
-times 10000 advance 0
-times 9 reset-event e18
-done
-client
-done
---
-4 clients
-group g27
-group g28
-routine r26
-let l29 wait r26 priority low persistent group g28 cancel r26
-times 10000 close l29
-done
-client
-simple r26 priority normal long persistent group g28 cancel r26
-close-group g28
-simple r26 priority low persistent group g27
-times 10000 close-group g28
-close-members g28 cancel 6
-done
-client
-done
-client
-done
---
-1 clients
-routine r30
-advance 0
-simple r30 context 6 long
-done
---
-17 1 Unexpected
-io i37 r36 context 9 priority normal long
-group g39
-group g41
-routine r33
-done
-routine r34
-close i37
-times 10000 close i37
-close-members g39 cancel 1
-issue-io i37 o42
-done
-routine r35
-done
-routine r36
-may-run-long
-
-client
-advance 9223372036854775807
-close-group g41
-times 10000 simple r33 group g39
-times 8 start-io i37
-wait i37 keep
-done
-client
-simple r34 context 0 priority high long persistent
-times 8 close-members g39 cancel 0
-done
-client
-wait i37 keep
-times 4 start-io i37
-times 6 close-members g41 keep 3
-close-members g39 keep 18446744073709551615
-cancel-io i37
-keep
---
-30 1 Unexpected
-timer t8 r4 context 1 priority normal
-event e46 manual clear
-section s47
-routine r43
-times 4 wait t8 cancel
-may-run-long
-times 1 wait t8 keep
-acquire s47
-done
-routine r44
-set-event e46
-times 9 set-timer-ex t8 -9223372036854775808 2 4294967295
-done
-routine r45
-times 1 set-timer t8 -9223372036854775808 4294967295 4294967295
-times 1 simple r45 context 6 priority normal persistent
-done
-routine r4
-times 5 reset-event e46
-done
-client
-times 7 acquire s47
-times 8 set-event e46
-reset-event e46
-done
-client
-advance 0
-close t8
-done
-times 7 acquire s47
-times 7 set-timer-ex t8 -9223372036854775808 7 3
-reset-event e46
-let l0 wait r44 priority high long
-done
---
-2 clients
-group g50
-section s51
-mutex m53
-pool p54
-mutex m55
-group g56
-wait w57 r49 context 0 priority low persistent group g56
-wait w58 r49 context 2 long group g50
-routine r49
-times 10000 disassociate
-times 1 simple r49 context 1 priority normal
-times 1 set-maximum p54 4294967295
-done
-client
-advance 4
-times 10000 close-group g50
-times 10000 simple r49 priority low persistent group g56
-times 1 close w58
-done
---
-4 clients
-section s61
-section s62
-pool p63
-wait w64 r2 in p63 long persistent
-timer t65 r60 long
-group g4
-routine r5
-times 5 set-timer-ex t65 none 0 4294967295
-let l66 timer r59 context 4
-times 5 disassociate
-times 10000 disassociate
-done
-routine r2
-times 7 set-maximum p63 3
-times 10000 release s62
-times 7 advance 4
-done
-routine r59
-times 1 advance 9223372036854775807
-disassociate
-done
-routine r60
-times 1 close-pool p63
-may-run-long
-times 1 close w64
-disassociate
-done
-client
-advance 2
-acquire s62
-is-timer-set t65
-done
-client
-close-members g4 keep 2
-times 5 close-members g4 keep 9
-done
-client
-done
---
-6 6 Unexpected
-pool p71 max 6
-timer t5 r70 context 0 in p71 persistent
-pool p72
-work w73 r69 context 0 in p71 priority normal long persistent
-timer t74 r70 in p72 priority normal long persistent
-mutex 
-section s76
-semaphore s78 3 2147483647
-routine r69
-simple r69 in t5 long persistent
-times 7 set-wait x4 s78 506
-times 9 set-maximum p72 6
-times 1 may-run-long
-done
-routine r70
-times 4 release m75
-on-return s78
-simple r70 in p71
-times 1 close-pool s76
-done
-client
-is-timer-set t5
-times 9 set-timer-ex t74 0 4294967295 4
-close-pool p71
-times 10000 close w73
-release-semaphore s78 2147483647
-done
---
-4 clients
-section s83
-wait w84 r82
-event e86 auto set
-semaphore s87 8 8
-routine r79
-times 10000 on-return s83
-acquire s87
-done
-routine r80
-times 1 may-run-long
-times 1 release-semaphore s87 3
-let l89 work r80 long
-done
-routine r81
-wait w84 keep
-done
-routine r82
-release s83
-done
-client
-wait w84 cancel
-done
-client
-times 1 set-event e86
-done
-client
-done
---
-1 21 Unexpected
-timer t93 r92 long  ersistent
-routine r92
-x
---
-2 9 Unexpected
-event e97 auto set
-routine r_234567890abcdefghijklmnopqrstuv
-acquire e97
-times 9 set-event e97
-done
-routine r95
-advance 4
-times 10000 acquire e97
-done
-routine r96
-advance 5
-acquire e97
-done
-routine r3
-let l99 timer r96 context 4
-is-timer-set l99
-times 1 set-timer l99 0 4294967295 0
-done
-client
-done
-client
-done
---
-1 clients
-work w101 r100 context 18446744073709551615 long persistent
-mutex m102
-routine r0
-times 2 acquire m102
-times 5 release m102
-acquire m102
-done
-routine r100
-times 3 disassociate
-times 1 disassociate
-times 1 disassociate
-times 1 close w101
-acquire m102
-done
---
-1 clients
-group g103
-routine r2
-may-run-long
+if s5 set-timer-ex t6 -179 7 5
+try-acquire s5
 may-run-long
 done
 --
-10 23 UnknownName
-group g105
-pool p106 min 8
-wait w107 r1 in p106 priority high persistent
-wait w6 r1 context 18446744073709551615 priority low persistent
-section s108
-event e6 manual clear
-routine r1
-simple r1 context 3 in p106 long
-times 8 on-return e6
-times 1 close-members g104 cancel 0
+4 16 UnknownName
+routine r8
 done
---
-3 1 Unexpected
-event e110 auto clear
-group g111
-semaphoreZ s114 8 2147483647
-timer t115 r109 persistent group g111
-semaphore s116 2147483647 2147483647
-routine r109
-is-timer-set t115
-times 4 simple r109 priority normal group g111
-done
---
-2 clients
-group g120
-timer t5 r118 priority normal long persistent group g120 cancel r119
-routine r118
-times 7 close t5
-times 1 close-members g120 cancel 0
-done
-routine r119
-done
-client
-advance 1
-set-timer t5 -9223372036854775808 4294967295 7
-simple r119 context 6 priority normal persistent
-done
---
-4 27 Unexpected
-pool p4 min 6
-event e122 auto clear
-mutex m123
-semaphore s124 2147483647 1
-group g125
-mutex m126
-work w127 r121 context 1 persistent
-routine r121
-times 5 release m126
-times 9 submit w127
-on-return s124
-done
---
-3 1 Unexpected
-pool p129 min 3
-client
-mutex m130
-group g131
-mutex m132
-wait w133 r5 context 0 in p129 priority high persistent group g_234567890abcdefghijklmnopqrstuv
-work w134 r5 in p129 persistent
-mutex m135
-routine r128
-acquire m130
-done
-routine r5
- g131
-on-return m130
-done
-client
-release m130
-submit w134
-set-maximum p129 1
-times 1 close-members g_234567890abcdefghijklmnopqrstuv keep 18446744073709551615
-set-maximum p129 4294967295
-done
-client
-done
---
-10 1 Unexpected
-group g138
-routine r136
-times 1 may-run-long
-done
-routine r137
-disassociate
-done
-client
-done
-g138
-done
---
-6 17 UnknownName
-pool p_234567890abcdefghijklmnopqrstu
-routine r139
-done
-routine r140
-times 3 disassociate
-times 3 release x2
-done
-client
-times 8 close-pool p_234567890abcdefghjklmnopqrstu
-done
-9223372036854775808
-times 1 set-maximum p_234567890abcdefghijklmnopqrstu 2
-times 8 set-maximum p_234567890abcdefghijklmnopqrstu 0
-issue-io x0 o8
-done
---
-13 8 UnknownName
-mutex m143
-section s144
-mutex m145
 routine r7
-advance 7
-times 9 may-run-long
+times 10000 if x0 close x1
 done
-routine r142
-advance 0
-disassociate
+routine r9
+done
+routine r10
 done
 client
-submit x4
-times 1 advance 0
+times 7 advance 0
+let l11 work r9 priority low long persistent
 done
 --
-14 28 Unexpected
-wait w151 r146 context 2 persistent
-pool p152 max 0
-wait w153 r147 context 18446744073709551615 long
-io i154 r146 context 0
-pool p155 min 1
-group g156
-routine r146
-disassociate
-disassociate
-times 1 may-run-long
-times 1 close w151
+3 1 Unexpected
+pool p14
+mutex m15
+mutx m16
+routine r4
+set-event x0
+times 10000 if m15 try-acquire m16
+times 10000 if m15 on-return x2 4
 done
-routine r147
-times 3 set-minimum p155 0 8
-done
-routine r148
-done
-routine r149
-close-group g156
+routine r12
+times 1 unless m16 close-pool p14
+dzne
+routine r13
+unless m16 close-pool p14
 done
 client
-let l157 io r148
-times 1 set-minimum p155 4
-done
-c9ient
-close w153
-complete-io x0 4294967295 0
+times 10000 set-minimum p14 1
 done
 client
-done
---
-11 3 Unexpected
-wait w3 r158 context 3 long persistent
-io i160 r159 long
-routine r158
-close i160
-issue-io i160 o161
-done
-routine r159
-done
-client
-times 10000 advance 0
-  routine r159  
-times 1 advance 0
-start-io i160
-times 1 cancel-io i160
-done
-client
-times 1 close w3
-times 3 close w3
-times 9 cancel-io i160
-times 2 wait i160 cancel
-done
-client
-let l162 wait r158 long
-let l163 io r159 long persistent
-done
---
-1 clients
-pool p166 min 6
-section s167
-routine r164
-on-return s167
-done
---
-1 1 Unexpected
-done g169
-routiner4
-times 7 simple r4 priority high group g169 cancel r4
-close-group g169
-done
---
-9 22 UnknownName
-group g173
-event e174 auto clear
-semaphore s5 9 2147483647
-routine r171
-done
-routine r172
-done
-client
-times 1 is-timer-set x3
---
-3 13 Unexpected
-mutex m179
-timer t180 r176 priority high long
-semaphore x s181 0 2147483647
-routine r175
-times 10000 acquire m179
-on-return m179
-times 10000 set-timer-ex t180 0 1 6
-set-timer-ex t180 none 4294967295 0
-done
-routine r176
-done
-routine r177
-times 4 on-return s181
-let l2 io r177 context 6 priority high long
-start-io l2
-may-run-long
-done
-routine r178
-times 5 release-semaphore s181 2147483647
-times 1 on-return s181
-dne
-client
-set-timer t180 none 0 0
-times 3 close t180
-release m179
-times 4 release m179
-done
---
-2 7 NameTwice
-timer m185 r_234567890abcdefghijklmnopqrst priority high long
-mutex m185
-routine r183
-done
-routine r_234567890abcdefghijklmnopqrst
-times 10000 is-timer-set t184
-done
-client
-release m185
-times 10000 close t184
-acquire m185
-acquire m185
-let l5 io r_234567890abcdefghijklmnopqrst priority low persistent group x3 cancel r_234567890abcdefghijklmnopqrst
-done
-client
-advance 6
-times 1 is-timer-set t184
-set-timer t184 0 9 2
-times 8 wait t184 keep
-done
---
-2 7 NameTwice
-semaphore m190 2 2147483647
-mutex m190
-timer t192 r188 priority high long persistent
-routine r188
-done
-client
-times 3 simple r188 priority normal long
-advance 1
-done
-client
-times 6 acquire s189
-times 5 wait t192 cancel
-times 10000 set-timer-ex t192 0 2 3
-done
---
-12 7 Unexpected
-event e199 auto set
-work w201 r198
-pool p202 max 4294967295
-event e204 manual set
-timer t205 r198 long persistent
-event e207 manual set
-routine r195
-done
-routine r196
-reset-event e207
-let l208 work r198 context 5 in p202 long persistent
-times 10000#close-pool p202
-done
-routine r197
-done
-routine r198
-done
-client
-times 10000 set-timer-ex t205 -9223372036854775808 0 0
-close-pool p202
-set-timer t205 -9223372036854775808 4 3
-done
-client
-advance 9223372036854775807
-done
-client
-times 4 wait t205 cancel
-done
---
-18 1 Unexpected
-group g214
-pool p215 max 4
-mutex m2
-routine r210
-set-maximum p215 0
-times 10000 close-group g214
-times 3 close-group g214
-done
-routine r211
-done
-routine r212
-release m2
-times 2 set-minimum p215 4294967295
-done
-routine r213
-times 6 on-return m2
-disassociate
-client
-close-group g214
-times 10000 close-group g214
-done
-client
-simple r213 priority normal group g214 cancel r212
-r210 l216 wait r210 priority high long persistent group g214
-done
---
-16 1 Unexpected
-section s221
-pool p1 max 3 min 0
-pool p222 max 8 min 7
-group g223
-work w5 r218 context 18446744073709551615 in p222 group g223 cancel r217
-mutex m224
-routine r217
-times 7 close-pool p222
-times 10000 submit w5
-let l225 io r217 persistent group g223
-done
-routine r218
-times 3 on-return m224
-release m224
-times 10000 close-members g223 cancel 18446744073709551615
-s221
-client
-close-pool p222
-done
---
-3 4 Unexpected
-event e228 manual set
-timer t229 r227
-io i_234567890abcdefghijklmnopqrstuv r226 context 0
-section s230
-mutex m231
-group g232
-io i233 r227 long
-group g1
-routine r226
-done
-routine r227
-close t229
-done
-clien9t
-wait t229 cancel
-cancel-io i_234567890abcdefghijklmnopqrstuv
-times 7 acquire s230
-done
-client
-times  close i_234567890abcdefghijklmnopqrstuv
-times 10000 advance 9223372036854775807
-times 1 start-io i233
-times 1 close-group g232
-done
-client
-set-event e228
-issue-io i233 o235
-done
---
-3 clients
-group g238
-pool p239
-pool p240 max 9
-routine r236
-times 1 set-minimum p239 1
-simple r236 context 0 group g238 cancel r236
-disassociate
-done
-client
-# set-maximum p240 6
-done
-client
-close-pool p239
-let l242 wait r236 context 0 priority normal long persistent
-done
---
-2 clients
-section s244
-io i245 r243 context 18446744073709551615 long
-event e246 auto set
-routine r3
-cancel-io i245
-on-return e246
-done
-routine r243
-issue-io i245 o247
-reset-event e246
-done
-client
-reset-event e246
-done
---
-1 clients
-io i3 r_234567890abcdefghijklmnopqrstu
-group g250
-routine r_234567890abcdefghijklmnopqrstu
-times 10000 close-group g250
-let l251 timer r_234567890abcdefghijklmnopqrstu priority normal long group g250
+if m16 release m15
+release m15
 done
 --
 2 11 Unexpected
-pool p253 max 4 min 4294967295
-work w254 A252 in p253
-event e258 auto clear
-semaphore s256 0 0
-pool p257
-event e258 auto clear
-routine r252
+work w18 r5 context 18446744073709551615 persistent
+pool pool p20
+routine r17
 done
---
-2 1 Unexpected
-event e259 manual clear
-reset-event e259
-times 4 reset-event e259
-advance 6
-reset-event e259
-times 1 advance 0
-done
-routine r2
-let l261 timer r5 context 0 priority high long persistent
-done
-client
-done
---
-3 clients
-semaphore s263 4 4
-section s264
-group g265
-event e266 auto set
-timer t267 r262 context 0 priority low long
-section s268
-routine r262
-times 1 disassociate
-times 8 close-group g265
-done
-client
-times 4 set-timer t267 9223372036854775807 3 0
-done
-client
-times 5 wait t267 cancel
-times 1 close-group g265
-done
---
-1 clients
-event e273 manual set
-event e274 manual set
-event e278 manual clear
-routine r270
-done
-routine r271
-times 4 advance 7
-acquire e273
-disassociate
-done
---
-6 22 UnknownName
-mutex m281
-section s285
-event e286 auto set
-routine r279
-times 2 acquire s285
-times 1 is-timer-set x0
-done
-routine r280
-advance 2
-acquire s285
-times 10000 advance 2
-done
-client
-simple r280 priority low persistent
-times 1 reset-event e286
-done
---
-3 clients
-section s289
-group g290
-routine r288
-close-group g290
-advance 5
-done
-client
-release s289
-simple r288 priority normal long persistent group g290
-times 10000 close-members g290 keep 5
-times 1 release s289
-done
-client
-times 4 close-members g290 keep 4
-times 4 release s289
-done
---
-1 19 Unexpected
-event e294 manual x
-section s297 s297
-pool p298
-event e300 auto clear
-routine r293
-on-return e300
-times 5 set-minimum p298 4
-done
---
-6 1 Unexpected
-section s5
-section s304
-work w3 r303 context 1 priority high
-event e305 manual clear
-routine r301
-w3
-routine r302
-times 10000 release s5
-done
-routine r303
-done
-client
-wait w3 keep
-release s5
-submit w3
-reset-event e305 close-pool
-done
---
-4 clients
-semaphore s311 9 2147483647
-section s313
-routine r307
-release-semaphore s311 1
-disassociate
-times 4 acquire s311
-times 1 acquire s311
-done
-routine r308
-may-run-long
-times 10000 acquire s313
-simple r309 priority high
-release s313
-release s313
-done
-routine r309
-times 4 advance 0
-done
-routine r310
-times 5 disassociate
-release-semaphore s311 4
-done
-client
-times 1 simple r307 context 0 long persistent
-done
-client
-release s313
-let l317 timer r307 context 18446744073709551615 long persistent
-done
-client
-times 3 release s313
-times 1 acquire s311
-done
---
-17 1 Unexpected
-pool p323 max 1 min 7
-io i324 r321
-section s326
-group g327
-pool p328 min 4294967295
-routine r321
-release s326
-times 8 wait i324 cancel
-close-members g327 keep 18446744073709551615
-done
-routine r2
-close i324
-set-maximum p323 0
-let l6 work r2 in p328 long
-done
-routine r322
-r2
-client
-times 10000 close i324
-done
-client
-simple r322 in p328 long
-acquire s326
-done
---
-5 19 UnknownName
-group g333
-routine r329
-times 1 close-members g333 cancel 6
-times 10000 advance 0
-times 10000 close x3
-done
-routine r330
-times 4 close-members g333 cancel 5
-done
-routine r331
-times 9 disassociate
-advance 5
-times 10000 advance 9223372036854775807
-times 8 disassociate
-r331
-routine r332
-times 1 close-members g333 keep 18446744073709551615
-advance 5
-done
-client
-close-group  333
-done
-client
-done
---
-11 6 Unexpected
-pool p339 max 5
-semaphore s340 3 3
-group g3
-mutex m341
-section s4
-routine r336
-times 1 acquire s340
-set-maximum p339 5
-times 1 set-minimum p339 4294967295
-simple r336
-done s4
-routine r337
-set-minimum p339 0
-done
-routine r338
-done
-done
-let l344 wait r336 context 5 priority normal long
-times 6 close l344
-times 3 release-semaphore s340 2
-done
-client
-let l347 wait r337 context 5 in p339 priority normal long persistent group g3
-times 1 close l347
-close l347
-release-semaphore s340 1
-done
---
-23 10 UnknownName
-event e351 auto set
-event e353 manual clear
-section s354
-routine r348
-on-return e351
-times 10000 reset-event e353
+routine r6
 done
 routine r1
-times 2 release s354
-set-event e351
-times 10000 may-run-long
+set-minimum p20 4294967295
+set-maximum p20 0
+set-minimum p20 0
 done
-routine r349
-acquire s354
-reset-event e351
-done
-routine r350
-disassociate
-times 7 on-return e351
-times 9 may-run-long
-done
-client
-set-wait x0 e353 none
-4294967296 8 acquire e351
-reset-event e351
-times 10000 release s354
-advance 9223372036854775807
-done
-client
-release s354
-advance 1
-done
---
-4 clients
-event e2 manual set
-  wait w361 r359 long  
-mutex m364
-section s366
-semaphore s367 0 1
-group g368
-section s369
-routine r358
-times 10000 may-run-long
-set-event e2
-done
-routine r359
-times 6 simple r359 priority normal persistent group g368
-times 6 release-semaphore s367 2147483647
-release m364
-done
-client
-release s366
-times 9 close-group g368
-let l371 timer r359 priority low
-done
-client
-advance 0
-times 1 simple r359 context 9 priority low long persistent group g368
-set-event e2
-reset-event e2
-times 5 set-event e2
-done
-client
-times 10000 wait w361 cancel
-times 1 reset-event e2
-release s366
-times 4 close w361
-done
---
-4 1 Unexpected
-pool p373
-section s374
-semaphore s375 9 9
-times 1 advance 0
-pool p377
-semaphore s7 5 1
-group g378
-routine r7
-times 1 advance 0
-release-semaphore s375 1
-times 10000 close-members g378 cancel 0
-done
-client
-times 1 advance 8
-times 7 set-minimum p373 4294967295
-set-minimum p373 0
-release-semaphore s376 1
-times 1 close-members g378 cancel 0
-done
-client
-issue-io x1 o379
-times 007 release s374
-let l380 work r7 context 7 in p373 long persistent group g378 cancel r7
-times 3 close-pool p373
-done
-client
-times 4 set-maximum p373 3
-set-maximum p377 2
-set-maximum p377 7
-done
---
-3 12 UnknownName
-mutex m385
-mutex m386
-timer t387 r383 context 0 priority high
-semaphore s5 2 2147483647
-mutex m388
 routine r5
-times 10000 close t387
-times 1 simple r381 long
-done
-routine r381
-done
-routine r382
-release-semaphore s5 5
-times 7 may-run-long
-done
-routine 7 r383
-wait t387 cancel
-done
---
-3 clients
-mutex m391
-mutex m_234567890abcdefghijklmnopqrstu
-work w392 r_234567890abcdefghijklmnopqrst context 0 priority normal persistent
-group g393
-timer t394 r390 context 6 long
-wait w395 r_234567890abcdefghijklmnopqrst context 0 long
-routine r390
-times 7 wait w395 keep
-set-timer t394 245 4294967295 4
-done
-routine r_234567890abcdefghijklmnopqrst
-times 10000 disassociate
-done
-client
-times 10000 close-members g393 keep 2
-is-timer-set t394
-set-wait w395 m391 -753
-times 5 set-timer t394 889 4294967295 5
-done
-client
-set-timer t394 9223372036854775807 4 2
-close-members g393 keep 2
-set-timer t394 -9223372036854775808 4294967295 0
-done
---
-4 1 Unexpected
-section s400
-mutex m401
-mutex m402
-ection s406
-event e3 auto clear
-routine r398
-reset-event e3
-done
-routine r_234567890abcdefghijklmnopqrstuv
-reset-event e3
-acquire s406
-done
-r_234567890abcdefghijklmnopqrstuv
-times 9 set-event e3
-reset-event e3
-done
-client
-times 10000 release s406
-reset-event e3
-times 10000 set-event e3
-done
-client
-times 6 release s406
-advance 0
-release s400
-done
---
-2 7 Unexpected
-section s4
-mutex m_234567890abcdefghijklmnopqrstuv
-io i3 r412 long persistent
-routine r412
-times 1 wait i3 keep
-acquire s4
-close i3
-done
-client
-times 10000 wait i3 keep
-cancel-io i3
-done
-client
-times 10000 release s4
-done
---
-1 clients
-event e416 manual set
---
-5 27 Unexpected
-semaphore s424 1 1
-group g425
-section s426
-section s428
-semaphore s429 2147483647 1
-mutex m430
-# routine r421
-done
-done
-routine s426
-release s428
-on-return s429 2147483647
-release-semaphore s424 1
-done
-routine r423
-times 3 on-return s424 6
-done
-client
-simple r423 long
-done
-client
-close-group g425
-times 5 close-members g425 keep 5
-times 8 advance 0
-done
---
-9 1 Unexpected
-section s437
-semaphore s438 2147483647 2147483647
-routine r433
-disassociate
-may-run-long
-may-run-long
-done
-routine r434
-disassociAte
-times 9 acquire s438
-done
-client
-release-semaphore s438 2147483647
-times 7 advance 2
-release s437
-times 6 release-semaphore s438 2147483647
-r433
-s437
-release s437
-times 1 release-semaphore s438 7
-done
-client
-times 10000 release-semaphore s438 2147483647
-release s437
-done
---
-7 1 Unexpected
-semaphore s5 8 2147483647
-mutex m444
-group g445
-group g447
-routine r441
-times 7 may-run-long
-may-runlong
-advance 9223372036854775807
-times 10000 simple r441 context 0 priority high long
-done
-routine r442
-close-members g447 cancel 0
-times 10000 close-members g447 cancel 18446744073709551615
-done
-client
-done
-client
-done
-client
-advance 0
-done
---
-3 7 NameTwice
-event e452 manual clear
-pool p456 max 4294967295
-mutex e452
-section s458
-mutex m460
-routine r8
-done
-routine r450
-on-return m460
-on-return m460
-times 10000 acquire m457
-times 4 reset-event e452
-done
-routine r451
-done
-client client
-release s458
-done
---
-1 18 Unexpected
-semaphore s467 0 0
-routine r463
-times r464 disassociate
-done
-routine r464
-disassociate
-times 7 on-return s467 2147483647
-advance 0
-times 10000 release-semaphore s467 4
-done
-routine r465
-times 8 acquire s467
-times 3 acquire s467
-done
---
-4 clients
-semaphore s471 6 2147483647
-wait w472 r470 context 2 priority high long persistent
-mutex m473
-group g474
-routine r470
-on-return m473
-times 10000 advance 4
-release m473
-done
-client
-advance 3
-simple r470 priority low persistent
-set-wait w472 s471 9223372036854775807
-done
-client
-release-semaphore s471 3
-done
-client
-times 2 wait w472 keep
-simple r470 context 0 priority normal long
-done
---
-8 9 WrongName
-semaphore s480 2147483647 2147483647
-mutex m481
-section s482
-pool p483 max 6
-semaphore s484 2147483647 2147483647
-section s485
-mutex m486
-io r478 m481 context 6 priority low long
-routine r477
-on-return m481
-let l8 io r477 context 3 in p483 priority normal long persistent
-done
-routine r478
-done
-routine r479
-times 10000 cancel-io i487
-done
-client
-done
-client
-wait i487 cancel
-done
-client
-times 2 start-io i487
-set-minimum p483 0
-done
---
-16 1 Unexpected
-section s491
-section s3
-group g492
-section s0
-routine r488
-times 2 may-run-long
-on-return s3
-times 1 disassociate
-times 3 release s0
-let l493 wait r490 priority low
-done
-routine r489
-times 10000 close-group g492
-times 10000 may-run-long
-done
-done
-routine r490
-done
---
-1 clients
-routine r496
-times 10000 advance 9
-done
-routine r497
-may-run-long
-done
---
-3 clients
-io i503 r501 persistent
-pool p504 min 7
-timer t505 r501 in p504 persistent
-section s508
-group g509
-section s510
-routine r499
-done
-routine r500
-on-return s508
-done
-routine r501
-times 5 close i503
-done
-client
-done
-client
-set-timer t505 -9223372036854775808 7 7
-times 10000 set-minimum p504 9
-set-timer-ex t505 0 4294967295 4294967295
-issue-io i503 o511
-done
---
-3 1 Unexpected
-routine r2
-done
-times 1 set-timer-ex x4 732 0 0
-times 8 reset-event x4
-done
-routine r512
-times 9 advance 6
-advance 1
-routine r513
-times 4 advance 0
-times 8 disassociate
-advance 9
-do1ne
---
-13 1 Unexpected
-pool p518 max 4
-io i519 r516 context 18446744073709551615
-section s521
-section s522
-work w523 r516 context 2 in p518 persistent
-mutex m525
-mutex m526
-routine r516
-done
-client
-times 1 set-maximum p518 0
-done
-times 3 start-io l527
-times 10000 close-pool p518
-start-io i519
-done
-client
-advance 9223372036854775807
-times 1 start-io i519
-let l527 io r516 context 3 priority normal long
-client
-times 1 close-pool p518
-times 10000 cancel-io i519
-done
---
-26 13 UnknownName
-section s531
-routine r528
-release s531
-advance 1
-times 3 may-run-long
-times 1 acquire s531
-done
-routine r529
-done
-routine r530
-done
-client
-times 10000 simple r530 context 0 persistent
-times 10000 acquire s531
-times 10000 release s531
-advance 5
-done
-client
-times 10000 acquire s531
-done
-client
-times 2 release s531
-advance 9223372036854775807
-times 6 acquire s531
-times 6 acquire s531
-close-group x4
-done
---
-8 1 Unexpected
-section s535
-event e536 auto clear
-event e7 auto set
-routine r533
-disassociate
-times 6 simple r533 context 18446744073709551615 priority normal long persistent
-times 2 release s535
-2147483648
-routine r534
-cancel-io x1
-release s535
-times 6 advance 3
-done
---
-1 46 Unexpected
-semaphore s_234567890abcdefghijklmnopqrstu 0 0
-event e6 manual set
-group g8
-routine r537
-times 5 on-return s_234567890abcdefghijklmnopqrstu
-done
-routine r538
-reset-event e6
-done
-client
-times 1 advance 9223372036854775807
-set-event e6
-times 8 reset-event e6
-times 4 set-event e6
-release-semaphore s_234567890abcdefghijklmnopqrstu 6
-done
-client
-release-semaphore s_234567890abcdefghijklmnopqrstu 1
 advance 9223372036854775807
 done
---
-1 18 Unexpected
-semaphore s541 0 0
-routine r8
-acquire s541
-times 2 on-return s541 2
-times 5 release-semaphore s541 2
-done
-routine r7
-disassociate
-times 10000 on-return s541 6
-on-return s541
-done
 client
-times 1 acquire s541
-release-semaphore s541 7
-reset-event x1
---
-1 clients
-group g549
-group g551
-io i552 r547 context 0 persistent
-semaphore s7 2147483647 2147483647
-routine r547
-times 6 close i552
-done
-routine r2
-release-semaphore s7 2147483647
-wait i552 cancel
-on-return s7 1
-close i552
-done
-routine r548
-times 9 wait i552 keep
-times 10000 acquire s7
-times 3 acquire s7
-times 10000 start-io i552
-done
---
-3 18 Unexpected
-mutex m554
-section s556
-semaphore s557 3 1
-event e558 manual clear
-routine r553
-times 8 release s556
-reset-event e558
-may-run-long
-done
-client
-times 2 release m554
-acquire m554
-times 5 reset-event e558
-done
---
-3 9 Unexpected
-group g566
-mutex m567
-section s56Z
-semaphore s569 6 6
-pool p570 max 4294967295 min 0
-work w571 r5 context 0 long group g566
-work w572 r563 priority low
-mutex 2147483648
-routine r5
-done
-routine r563
-times 1 close-members g566 keep 0
-let l575 timer r7 context 0 priority normal persistent
-done
-routine r7
-done
-routine r564
-simple r5 in p570 persistent
-times 3 acquire s568
-times 1 submit w572
-done
-client
-times 1 reset-event x4
-close w572
-set-minimum p570 2
-acquire m573
-done
---
-1 30 UnknownName
-timer t578 r577 context 9 in x1 priority low long persistent group x2
-group g579
-section s7
-event e580 manual set
-mutex m582
-routine r577
-times 1 is-timer-set 
-acquire e580
-times 10000 set-event e580
-times 1 simple r577 persistent
+close-pool p20
 done
 --
 2 clients
-mutex m4
-routine r584
-times 9 release m4
+group g_234567890abcdefghijklmnopqrstu
+routine r21
 done
-routine r585
-done
-routine r7
-times 9 may-run-long
-acquire m4
-done
-routine r5
-times 1 acquire m4
-done
-client
-times 3 release m4
-release m4
-release m4
-done
---
-1 clients
-routine r589
+routine r22
 may-run-long
+times 1 close-group g_234567890abcdefghijklmnopqrstu
+advance 1
+close-members g_234567890abcdefghijklmnopqrstu cancel 18446744073709551615
 done
---
-3 31 Unexpected
-work w594 r593 priority normal long
-group g595
-timer t596 r593 priority high 10000 group g595 cancel r593
-io i598 r593 context 1 long group g595 cancel r593
-mutex m599
-timer t600 r593 priority normal long persistent group g595 cancel r593
-routine r592
-disassociate
-times 2 wait t596 keep
-times 4 on-return m599
-let l601 timer r592 context 9 priority high long persistent
-done
-routine r593
-done
---
-1 11 UnknownName
-work w605 r603 context 7 long persistent
-mutex m1
-semaphore s606 8 1
-routine r602
-done
-routine routine r603
-done
-routine r604
-done
---
-23 1 Unexpected
-pool p613
-timer t614 r609 context 18446744073709551615 priority high long
-group g615
-work w3 r609 priority low
-io i3 r610 context 6 priority low long
-routine r609
-disassociate
-issue-io i3 o616
-times 1 close-group g615
-done
-routine r610
-times 8 set-maximum p613 5
-done
-client
-submit w3
-done
-client
-is-timer-set t614
-times 1 close-group g615
-times 7 set-maximum p613 6
-times 7 close-members g615 cancel 1
-done
-done
-client
-times 9 close-group g615
-times 10000 10000 set-minimum p613 4294967295
-times 6 close w3
-times 9 simple r609 in p613 long
-let l617 work r610 context 0 group g615
---
-6 1 Unexpected
-group g620
-group g621
-mutex m623
-mutex m624
-event e628 auto clear
-done
-times 10000 disassociate
-times 6 set-event e628
-times 10000 close-group g620
-times 10000 disassociate
-times 6 acquire m623
-done
-routine r619
-times 4 reset-event e628
-disassociate
-done
-client
-done
-client
-release m624
-close-group g620
-times  set-event e628
-done
--9223372036854775808
-times 8 release m624
-routine r618
---
-5 1 Unexpected
-work w6 r630 context 0 long
-group g633
-pool p634 max 5
-routine r630
-don1e
-client
-done
-client
-done
---
-2 18 Unexpected
-semaphore s637 2147483647 2147483647
-semaphore s638 5 1
-mutex m639
-routine r635
-done
-routine r636
-done
-client
-times 1 advance 0
-times 10000 release-semaphore s637 1
-times 1 acquire s637
-times 1 release-semaphore s637 9
-done
-client
-done
-client
-times 1 simple r635 context 7 priority high persistent
-
---
-2 1 Unexpected
-io i643 r641 context 18446744073709551615 long
-times 1 simple r1 in p3 long persistent
-routine r641
-close-pool p3
-times 1 wait i643 cancel
-let l4 io r642 priority normal long
-pool p3 min 0
-done
-routine r1
-done
-routine r642 done
-start-io i643
-times 8 start-io i643
-issue-io i643 o645
-times 10000 set-maximum p3 4294967295
-done
-client
-times 10000 close-pool p3
-done
-client
-set-maximum p3 0
-  done  
---
-2 clients
-semaphore s649 1 1
-event e651 auto clear
-routine r7
-let l652 io r7 context 0 long
-may-run-long
-done
-client
-reset-event e651
-times 1 release-semaphore s649 1
-done
---
-2 22 UnknownName
-group g654
-wait w656 r653 group normal long
-io i657 r653 context 8 priority normal long persistent group g654 cancel r653
-timer t658 r653 context 0 long persistent group g654
-work w659 r653 priority low long group g654
-event e660 manual clear
-event e661 manual clear
-routine r653
-issue-io i657 o662
-done
---
-10 10 UnknownName
-work w667 r663 long
-group g_234567890abcdefghijklmnopqrst
-routine r663
-done
-routine r664
-close-members g_234567890abcdefghijklmnopqrst cancel 0
-done
-routine r665
-advance 0
-set-wait x3 x0 0
-done
-routine r666
-close-members g_234567890abcdefghijklmnopqrst keep 5
-times 5 close-members g_234567890abcdefghijklmnopqrst keep 2
-let l669 timer r665 context 2 priority high
-times 1 close-members g_234567890abcdefghijklmnopqrst cancel 5
-done
-client
-done
---
-8 9 Unexpected
-routine r670
-done
-client
-done
-client
-  done  
-client
-times 1 ~advance 7
-done
---
-24 21 UnknownName
-semaphore s675 0 1
-pool p676
-pool p670
-event e678 auto set
-section s679
-timer t680 r674 priority low long
-event e681 manual set
-group g682
-routine r672
-done
-routine r673
-set-timer t680 0 9 1
-close-group g682
-done
-routine r674
-set-event e678
-may-run-long
-done
-client
-reset-event e681
-done
-client
-release s679
-times 1 set-maximum p677 4294967295
-times 10000 release-semaphore s675 2147483647
-done
---
-3 17 WrongName
-mutex m687
-routine r684
-times 1 release r685
-times 6 may-run-long
+routine r23
 times 1 may-run-long
+times 3 close-members g_234567890abcdefghijklmnopqrstu cancel 18446744073709551615
 done
-routine r685
-on-return m687
-times 10000 on-return m687
-may-run-long
-done
-routine r686
-times x 10000 release m687
-times 10000 acquire m687
+routine r24
+simple r24 context 6 group g_234567890abcdefghijklmnopqrstu
 done
 client
-acquire m687
-done
-client
-release m687
-close-pool x2
-times 10000 advance 9223372036854775807
-done
-client
-release m687
-acquire m687
-times 10000 advance 9223372036854775807
-times 10000 acquire m687
+times 10000 advance 0
 done
 --
-1 48 UnknownName
-work w695 r691 context 18446744073709551615 in x2 persistent group x1 cancel r692
-section s0
-mutex m694
-semaphore s693 6 6
-pool p696 max 1
-mutex m697
-routine r691
+1 clients
+routine r25
 done
-routine r692
-may-run-long
+routine r26
 done
-clent
-done
-client
-release-semaphore s693 2147483647
-times 6 close-pool p696
+routine r27
 done
 --
-8 19 UnknownName
+1 clients
+event e32 manual clear
+routine r28
+set-event e32
+unless e32 advance 9223372036854775807
+done
+routine r29
+set-event e32
+if e32 reset-event e32
+times 8 unless e32 on-return e32
+done
+routine r30
+times 10000 reset-event e32
+done
+--
+1 13 Unexpected
+section s36 s39
+group g37
+timer t38 r34 persistent
+section s39
+timer t40 r34 context 18446744073709551615 long persistent group g37
+routine r33
+times 10000 if s36 on-return s39
+times 10000 if s39 advance 9223372036854775807
+done
+routine r34
+unless s36 acquire s36
+times 1 if s36 close t40
+done
+routine r35
+unless s39 simple r34 long persistent group g37
+done
+routine r2
+done
+client
+done
+client
+client
+times 1 advance 5
+close-members g37 keep 0
+unless s39 set-timer t40 0 0 0
+done
+--
+4 20 UnknownName
+pool p44 max 7
+routine r42
+times 10000 disassociate
+times 10000 unless x1 advance 8
+unless x4 release x0
+
+routine r8
+times 4 set-maximum p44 8
+done
+routine r43
+advance 4
+done
+client
+complete-next x0 4294967295 9
+times 9 set-maximum p44 3
+done
+client
+close-pool p44
+done
+--
+4 clients
+section s48
+group g49
+group g1
+timer t50 r47 persistent group g49 cancel r47
+routine r46
+if s48 try-acquire s48
+times 1 wait t50 cancel
+done
+routine r47
+done
+routine r2
+times 10000 unless s48 close-group g49
+done
+client
+unless s48 advance 6
+done
+client
+unless s48 wait t50 keep
+release s48
+times 1 if s48 advance 9223372036854775807
+times 1 unless s48 close t50
+done
+client
+times 4 if s48 wait t50 keep
+times 1 advance 9
+times 8 unless s48 set-timer t50 109 4294967295 0
+times 6 unless s48 set-timer-ex t50 -26 0 5
+done
+--
+1 clients
+routine r0
+advance 9
+done
+routine r51
+done
+routine r52
+done
+routine r53
+may-run-long
+done
+--
+1 17 Unexpected
+semaphore s55 0 0
+section s56
+event e57 manual clear
+semaphore s58 7 7
+mutex m59
+event e60 auto clear
+routine r54
+done
+--
+3 13 Unexpected
+routine r61
+done
+routine r62 r62
+done
+routine r63
+times 10000 if x3 release-semaphore x0 6
+done
+client
+times 2 advance 2
+done
+client
+done
+client
+times 8 advance 9
+done
+--
+6 32 UnknownName
+work w65 r64 context 0 priority low long persistent
+timer t67 r7 priority high long persistent
+event e68 auto set
+routine r64
+if e68 submit w65
+times 10000 if e68 set-maximum x3 2
+submit w65
+done
+routine r7
+times 1 if e68 wait w65 keep
+times 2 unless e68 simple r7 context 18446744073709551615 priority low
+times 1 on-return e68
+times 10000 unless e68 may-run-long
+done
+client
+times 10000 if e68 acquire e68
+done
+client
+set-event e68
+done
+--
+1 1 Unexpected
+times 10000 unless s72 set-timer l76 none 1 3
+group g73
+mutex m74
+wait w75 r70 context 0 priority high long
+routine r69
+let l76 timer r69 persistent group g73
+times 10000 unless s72 set-timer l76 none 1 3
+done
+routine r70
+times 4 try-acquire s72
+times 1 acquire s72
+done
+routine r71
+done
+client
+done
+client
+done
+client
+if s72 close-members g73 keep 18446744073709551615
+unless m74 try-acquire s72
+unless m74 set-wait w75 none none
+done
+--
+4 23 WrongName
+routine r77
+advance 7
+may-run-long
+times 1 close-members r77 cancel 18446744073709551615
+done
 routine r1
-may-run-long
-times 6 advance 8
+times 10000 may-run-long
+unless x3 set-event x4
 done
-routine r698
-let l699 work r1 long
-times 10000 submit l699
-times 1 set-timer x0 9223372036854775807 0 4294967295
-done
-client
-do0e
-set-wait x0 x4 -224
-advance 9223372036854775807
+routine r78
+times 1 release x3
+unless 5
 done
 --
-24 2 Unexpected
-work w702 r701 priority high persistent
-wait w703 r701 persistent
-event e704 auto clear
-routine r700
+4 clients
+wait w83 r80 context 9 priority high long persistent
+semaphore s84 4 2147483647
+routine r79
+times 1 if s84 advance 2
+times 2 if s84 acquire s84
+unless s84 disassociate
 done
-routine r701
-may-run-long
-set-event e704
-simple r700 context 18446744073709551615
+routine r80
+unless s84 wait w83 cancel
+times 5 if s84 try-acquire s84
 done
-client
-times 2 advance 5
-times 7 set-event e704
-advance 0
-advance 0
-times 9 advance 9223372036854775807
+routine r81
 done
-client
-times 1 acquire e704
-times 9 advance 9223372036854775807
-times 9 reset-event e704
+routine r82
+if s84 set-wait w83 s84 -202
+times 7 if s84 acquire s84
 done
 client
- e704 e704
-acquire e704
+done
+client
+times 10000 release-semaphore s84 2147483647
+if s84 simple r82 context 5
+done
+client
+times 1 unless s84 release-semaphore s84 4
 done
 --
-1 18 Unexpected
-semaphore s706 0 0
-io i707 r705 persistent
-group g708
-pool p709 max 4294967295 min 
-event e710 manual clear
-pool p711
-section s712
-mutex 
-routine r705
-issue-io i707 o714
-on-return e710
-release-semaphore s706 1
-done
---
-23 1 Unexpected
-io i719 r715 long persistent
-group g720
-pool p721
-io i4 r717 priority low persistent group g720 cancel r718
-routine r715
-start-io i719
-done
-routine r716
-  done  
-routine r717
-disassociate
-times 3 advance 5
-set-minimum p721 0
-done
-routine r718
-times 10000 close-pool p721
-done
-client
-times 8 set-maximum p721 3
-cancel-io i4
-times 7 close-pool p721
-set-minimum p721 4294967295
-r718
---
-10 13 UnknownName
-mutex m722
-mutex m723
-event e725 auto clear
-pool p726 max 7
-routine r1
-times 8 set-minimum p726 8
-done
-client
-reset-event e725
-close-group x0
-reset-event e725
-done
-client
-done
---
-2 clients
-section s729
-mutex m730
-semaphore s731 0 2147483647
-pool p732 max 0
-mutex m733
-event e734 manual set
-mutex m7
-section s735
-routine r727
-times 1 on-return m730
-release-semaphore s731 2
-release-semaphore s731 2
+9 9 NameTwice
+timer t89 r0 context 4 priority high persistent
+pool p90
+work w91 r85 context 18446744073709551615 long persistent
+routine r85
+times 1 submit w91
 done
 routine r0
-times 5 set-maximum p732 0
-times 5 set-minimum p732 4
-on-return m733
-times 7 disassociate
 done
-routine r728
+routine r0
+times 5 advance 2
 done
-client
-times 10000 set-maximum p732 0
+routine r86
+wait t89 cancel
 done
 --
-13 7 Unexpected
-section s740
-event e742 manual set
-group g743
-mutex m744
-section s0
-section s745
-mutex m746
-wait w747 r738 context 8 priority high long
-routine r736
-times 6 disassociate
+2 17 Unexpected
+group g95
+semaphore s97 0 0
+routine r3
+times 1 close-members g95 cancel 0
+let l98 work r93 context 0 long group g95
 done
-routine r737
-times times 5 advance 0
-don
-routine r738
-done
-routine r739
-times 1 wait w747 cancel
-times 10000 close-members g743 cancel 18446744073709551615
-done
---
-1 clients
-event e755 auto set
-semaphore s758 5 2147483647
-pool p759
-event e760 auto set
-event e762 auto clear
-io i764 r752 in p759 priority normal long
-work w765 r752 in p759 priority high persistent
-routine r752
-done
-routine r753
-reset-event e762
-times 3 cancel-io i764
-times 1 submit w765
-times 10000 cancel-io i764
-issue-io i764 o766
-done
---
-1 clients
-mutex m771
-section s772
-semaphore s2 2 2147483647
-routine r767
-times 10000 on-return m771
-done
-routine r768
-done
-routine r769
-times 3 may-run-long
-release-semaphore s2 8
-on-return s2 3
-times 1 disassociate
-done
-routine r770
-advance 2
-release-semaphore s2 1
-times 10000 may-run-long
-may-run-long
-done
---
-3 clients
-pool p774
-semaphore s775 2147483647 2147483647
-semaphore s777 2147483647 2147483647
-routine r773
-times 3 on-return s775
-let l4 timer r773 priority low
-on-return s777
-done
-client
-close-pool p774
-advance 8
-set-minimum p774 0
-times 4 release-semaphore s777 7
-times 1 set-minimum p774 4294967295
-done
-client
-done
---
-2 16 Unexpected
-section s780
-semaphore s781 18446744073709551615 7
-mutex m784
-routine r778
-release m784
-times 10000 acquire s781
-done
-routine r779
-acquire s781
-times 5 is-timer-set x2
-times 7 release m784
-donez
-client
-acquire s781
-set-event x0
-done
---
-14 1 Unexpected
-event e8 manual set
-pool p787 max 5 min 4
-semaphore s788 2147483647 2147483647
-event e790 manual clear
-semaphore s791 2147483647 2147483647
-semaphore s793 9 9
-routine r785
-let l795 io r785 context 1 in p787 priority high long
-times 10000 release-semaphore s791 1
-done
-routine r786
-set-minimum p787 5
-reset-event e8
-s793 done
---
-3 clients
-event e798 auto set
-group g799
-section s800
-routine r796
-times 1 reset-event e798
-on-return e798
-let l801 io r796 context 0 group g799 cancel r796
-close-group g799
-done
-client
-times 1 close-members g799 cancel 0
-times 1 advance 0
-close-group g799
-times 1 advance 5
-done
-client
-done
---
-3 1 Unexpected
-mutex m807
-pool p809 min 3
-groAp g811
-wait w812 r802 context 0 in p809 priority normal long
-routine r802
-let l4 timer r802 long persistent
-doe
-routine r803
-set-maximum p809 5
-acquire m807
-times 8 close-pool p809
-close-group g811
+routine r93
+if r93 release-semaphore s97 2147483647
 times 1 may-run-long
+disassociate
+if s97 close-group g95
 done
-client
+routine r94
+let l99 timer r93 context 2 persistent group g95 cancel r93
+times 1 unless s97 simple r93 persistent group g95
 done
+clint
+unless s97 close-members g95 cancel 1
+release-semaphore s97 2
+# done
 client
-let l813 timer r803 persistent group g811 cancel r802
-times 10000 acquire m807
-times 7 close-group g811
+if s97 close-group g95
+unless s97 acquire s97
+if s97 acquire s97
 done
 --
-4 clients
-routine r814
-advance 9223372036854775807
+12 1 Unexpected
+pool p102 max 3
+semaphore s_234567890abcdefghijklmnopqrstu 0 1
+routine r100
+times 7 if s_234567890abcdefghijklmnopqrstu on-return s_234567890abcdefghijklmnopqrstu 2147483647
+release-semaphore s_234567890abcdefghijklmnopqrstu 4
 done
-routine r815
-advance 9223372036854775807
-done
-routine r816
-done
-routine r817
-times 10000 advance 0
-simple r817 context 1 long persistent
+routine r101
+times 6 advance 4
 done
 client
 done
-client
-times 2 simple r815 context 0 priority normal
+if s_234567890abcdefghijklmnopqrstu acquire s_234567890abcdefghijklmnopqrstu
+done
+--
+6 21 UnknownName
+routine r106
+done
+routine r8
 done
 client
-times 10000 simple r815 context 8 priority low long persistent
-let l6 io r816 context 5
-advance 5
+times 10000 acquire x2
+done
+client
+unless x3 release-semaphore x0 2147483647
+simple r106 priority normal persistent group x2 cancel r8
+done
+times
 done
 --
 2 clients
-pool p821 max 0
-io i823 r820 in p821 priority low long
-mutex m824
-timer t825 r819 context 18446744073709551615 in p821 long
-routine r819
-issue-io i823 o4
-set-maximum p821 7
-times 6 may-run-long
+group g112
+io i113 r108 group g112 cancel r110
+semaphore s115 2147483647 2147483647
+mutex m116
+routine r108
+unless s115 cancel-io i113
+let l117 work r108 context 0 persistent group g112
 done
-routine r820
-times 3 advance 0
-issue-io i823 o826
-close-pool p821
+routine r109
+if s115 release-semaphore s115 6
+unless s115 start-io i113
+unless m116 on-return s115 9
+done
+routine r110
+unless s115 close-members g112 cancel 0
+unless m116 on-return s115 6
+times 7 unless m116 advance 0
+done
+routine r111
+times 1 if m116 may-run-long
+unless s115 on-return s115 3
 done
 client
-close-pool p821
-times 10000 set-timer t825 -9223372036854775808 5 4294967295
-times 5 advance 0
-times 1 set-timer-ex t825 0 4294967295 4294967295
+unless m116 advance 3
 done
 --
-7 13 UnknownName
-section s829
-mutex m830
-section s831
-pool submit
-routine r6
+7 26 UnknownName
+io i0 r119 context 18446744073709551615
+routine r118
 may-run-long
-set-maximum p833 4294967295
-close-pool p833
 done
-routine r827
+routine r119
+times 5 advance 0
+times 10000 set-timer-ex x4 none 2 4
+times 5 advance 0
 may-run-long
-times 1 disassociate
+r119
+times 7 complete-next i0 9 18446744073709551615
 done
 client
-let l834 work r827 context 0 in p833 priority normal long persistent
+advance 9223372036854775807
 done
 --
 3 11 Unexpected
-group g837
-semaphore s838 2147483647 2147483647
-pool p839 maax 4294967295 min 4
-group g840
-section s841
-io i842 r835 priority normal long persistent group g840 cancel r835
-group g843
-routine r835
-cancel-io i842
-may-run-long
-cancel-io i842
+section s123
+section s124
+work w125 10000 long
+wait w126 r122 context 3
+routine r121
+unless s123 close w126
 done
-routine g837
+routine r3
+times 9 unless s124 disassociate
+unless s123 on-return s123
 done
---
-11 1 Unexpected
-mutex m848
-group g3
-routine r844
-done
-routine r845
-times 6 disassociate
-done
-routine r846
-times 10000 may-run-long
-done
-r846
-times 2 set-wait x0 m848 9223372036854775807
-close-members g3 keep 0
-client
-close-members g3 cancel 0
-times 1 release m848
-set-event x1
-times 1 close-group g3
-times 8 release m848
+routine r122
 done
 client
+times 4 if s123 wait w126 keep
+times 10000 if s124 release s124
+times 1 if s124 submit w125
 done
 --
-4 2 Unexpected
-work w854 r849 priority normal long
-pool p855
-pool p856 max 7 min 6
- p857
-section s5
-mutex m858
-routine r849
-p856
-routine r850
-times 4 wait w854 keep
-wait w854 keep
-times 4 close-pool p856
+2 clients
+section s132
+routine r128
+if s132 acquire s132
 done
-routine r851
-release s5
-let l860 wait r850 in p857 priority low
-set-minimum p857 5
-submit w854
-times 3 acquire m858
+routine r129
+times 1 unless s132 try-acquire s132
+times 10000 unless s132 disassociate
+unless s132 acquire s132
 done
-routine r852
+routine r130
+times 10000 acquire s132
+times 10000 if s132 advance 1
+times 10000 simple r130 context 9 priority normal
 done
 client
-times 2 close w854
-release s5
-times 6 close w854
-set-minimum p856 1
-set-minimum p857 5
+simple r130 priority low long
+release s132
+times 3 unless s132 advance 0
+if s132 try-acquire s132
+done
+--
+15 7 Unexpected
+mutex m134
+mutex m135
+group g136
+pool p137 min 4294967295
+work w138 r1 long persistent
+event e2 auto clear
+routine r133
+times 10000 if m135 on-return e2
+done
+routine r1
+if e2 on-return m134
+# unless e2 disassociate
 done
 client
-wait w854 cancel
+if e2 e2 try-acquire m134
+unless m134 close-pool p137
+done
+client
 done
 --
-6 1 Unclosed
-routine r861
-times 1 may-run-long
+13 25 UnknownName
+group g142
+timer t143 r140 context 5 long group g142
+pool p2 max 4294967295 min 3
+pool p7
+routine r139
 done
-routine r862
-times 10000 advance 0
+routine r140
+done
+routine r141
+times 10000 simple r139 in p7 group g142 cancel r140
+done
+client
+times 10000 try-acquire x1
+set-timer t143 9223372036854775807 4294967295 8
+set-timer t143 3 4294967295 4294967295
+times 10000 set-timer t143 -571 0 4
+done
 --
-4 18 Unexpected
-group g868
-semaphore s869 4 2147483647
-section s870
-semaphore s871 0 0
-mutex m872
-wait w873 r866 context 18446744073709551615 group g868 cancel r8
-event e875 manual set
-routine r865
-close-members g868 cancel 18446744073709551615
-close-group g868
+6 6 UnknownName
+routine r5
+# times 8 simple r144 priority high long persistent
 done
-routine r866
-times 9 acquire s870
+routine r144
+let done wait r144 persistent
+wait l145 keep
+times 1 close l145
+done
+cl\rent
+let l148 work r144 context 3
+times 10000 simple r144 context 0 long persistent
+done
+client
+done
+--
+1 clients
+pool p149 max 0
+routine r_234567890abcdefghijklmnopqrstu
+simple r_234567890abcdefghijklmnopqrstu context 9 in p149 priority normal long persistent
 done
 routine r8
-times 10000 wait w873 cancel
-times 8 close-group g868
-let l876 io r867 context 0
-issue-io l876 o877
+times 3 may-run-long
 done
-routine r867
+--
+2 21 UnknownName
+routine r150
+times 1 set-maximum x4 4
+r152
+routine r151
+release-semaphore x1 2147483647
+done
+routine r152
+if x1 set-minimum x3 4294967295
+done
+client
+advance 4
+
+--
+4 7 Unexpected
+section s159
+wait w161 r157 long persistent
+pool p162
+event e_234567890abcdefghijklmnopqrstuv auto clear
+routine r157
+--
+2 11 Unexpected
+mutex m166
+pool p167 9ax 4294967295
+semaphore s168 s168 6 1
+routine r165
+times 10000 if m166 advance 4
+done
+--
+1 11 UnknownName
+wait w171 r169 context 3 long
+pool p172 max 0 min 4294967295
+event e173 manual clear
+mutex m174
+group g175
+may-run-long
+times 6 if m174 may-run-long
+done
+routine r170
+disassociate
+times 1 if e173 set-wait w171 none 442
+done
+client
+if e173 close w171
+done
+--
+2 1 Unexpected
+mutex m179
+rout ne r176
+done
+routine r177
+done
+client
+if m179 try-acquire m179
+do#e
+--
+9 1 Unexpected
+event e183 auto clear
+mutex m185
+semaphore s187 2147483647 2147483647
+routine r180
+if s187 on-return s187
+unless s187 may-run-long
+unless e183 on-return s187
+may-run-long
+s187
+routine r181
+times 10000 release m185
+times 7 unless m185 disassociate
+unless m185 release m185
+done
+routine r182
+times 1 unless e183 acquire m185
+done
+s187
+times 1 if s187 advance 3
+if e183 set-minimum x0 0
+unless s187 advance 2
+done
+client
+times 10000 release-semaphore s187 2147483647
+times 1 if e183 is-timer-set x3
+done
+--
+1 clients
+section s192
+routine r189
+done
+routine r190
+unless s192 disassociate
+times 7 unless s192 acquire s192
+done
+routine r191
+times 4 disassociate
+times 1 if s192 may-run-long
+done
+--
+7 13 UnknownName
+routine r194
+done
+routine r195
+done
+routine r196
 times 10000 advance 0
-done
-client
-reset-event e875
-times 10000 set-wait w873 s870 none
-times 1 reset-event e875
-let l878 wait r866 context 6 priority normal persistent group g868 cancel r865
-times 10000 close l878
-done
-client
-times 1 wait w873 keep
-times 4 acquire s871
-done
-client
-times 7 release-semaphore s869 2147483647
-advance 9
-times 9 close w873
-close-group g868
-close w873
-done
---
-1 8 Unexpected
-section 
-wait w882 r880 context 8 long
-section s884
-section s886
-pool p887 min 7
-pool p888 min 5
-semaphore s890 2147483647 2147483647
-routine r879
-times 5 may-run-long
-set-wait w882 none none
-times 5 disassociate
-close-pool p888
-done
-routine r880
-close-pool p887
-done
---
-2 7 Unexpected
-group g3
-group 893
-pool p894 min 6
-work w895 r891 context 18446744073709551615 priority normal long group g893 cancel r891
-mutex m896
-semaphore s897 0 0
-pool p898 min 0
-routine r891
-done
---
-3 56 UnknownName
-group g900
-timer t901 r4 context 4 priority normal long
-work w4 r4 context 3 priority normal group g900 cancel r5
-section s902
-group g903
-routine 9r5
-times 1 acquire s902
-times 7 release s902
+reset-event x0
 disassociate
 done
-routine r899
-on-return s902
+--
+13 28 UnknownName
+mutex m198
+routine r197
 done
-routine r4
+client
+times 10000 if m198 release m198
+times 10000 unless m198 acquire m198
+  done  
+client
+times 1 release m198
 done
-client 0
-release s902
-acquire s902
+client
+times 2 if m198 acquire m198
+times 2 if m198 close-pool x2
+times 10000 if m198 release m198
+# if m198 acquire m198
+times 1 unless m198 release m198
+done done
+--
+3 20 UnknownName
+routine r199
+disassociate
+times 10000 unless x0 start-io x1
+times 1 advance 9223372036854775807
+done
+-1 r200
+done
+routine r2
+done
+routine r201
+done
+--
+1 11 Unexpected
+pool  max 0 min 8
+timer t205 r203 context 1 in p204 priority high long persistent
+routine r202
+times times 10000 set-timer-ex t205 547 4294967295 4294967295
+times 10000 disassociate
+set-timer t205 -867 1 4294967295
+close r203
+done
+routine r203
+done
+client
+done
+--
+3 clients
+section s209
+routine r208
+try-acquire s209
+if s209 acquire s209
+advance 9223372036854775807
+done
+client
+done
+client
+if s209 acquire s209
+times 4 if s209 acquire s209
+unless s209 acquire s209
+times 10000 if s209 try-acquire s209
+done
+--
+9 1 Unexpected
+routine r211
+done
+routine r1
+times 10000 may-run-long
+done
+routine r212
+done
+routine r213
+do~ne
+client
+done
+--
+12 1 Unclosed
+pool p217
+routine r214
+times 2 advance 9
+times 1 may-run-long
+done
+routine r215
+close-pool p217
+times 4 set-minimum p217 4294967295
+may-run-long
+done
+routine r3
+--
+2 clients
+mutex m_234567890abcdefghijklmnopqrst
+routine r219
+times 10000 if m_234567890abcdefghijklmnopqrst acquire m_234567890abcdefghijklmnopqrst
+if m_234567890abcdefghijklmnopqrst may-run-long
+done
+routine r220
+done
+routine r6
+times 8 if m_234567890abcdefghijklmnopqrst advance 9223372036854775807
+unless m_234567890abcdefghijklmnopqrst try-acquire m_234567890abcdefghijklmnopqrst
+done
+client
+times 4 unless m_234567890abcdefghijklmnopqrst acquire m_234567890abcdefghijklmnopqrst
+times 3 unless m_234567890abcdefghijklmnopqrst advance 0
+done
+--
+5 16 UnknownName
+routine r223
+may-run-long
+done
+routine r224
+times 10000 if x2 set-maximum x2 8
+let l225 work r223 context 5 priority low long
+cancel-io x3
+done
+client
+times 7 close-pool x1
+done
+client
+times 1 set-timer x0 0 5 9
+done
+--
+1 clients
+routine r226
+done
+routine r227
+times 3 may-run-long
+advance 9223372036854775807
+done
+--
+2 1 Unexpected
+semaphore s231 0 1
+done
+section s6
+mutex m233
+routine r228
+done
+routine 
+done
+routine r230
+may-run-long
+times 1 close-group g232
+times 10000 unless m233 simple r230 priority low long persistent
+times 9 if s231 close-members g232 cancel 0
+if s231 close-group g232
+done
+client
+unless s231 release s6
+close-group g232
+done
+client
+close-group g232
+times 10000 unless s231 close-group g232
+done
+--
+2 1 Unexpected
+routine r234
+r234
+--
+1 9 Unexpected
+routine r_234567890abcdefghijklmnopqrstuv
+done
+routine r235
+simple r235 context 4 priority high long
+done
+client
+times 10000 simple r_234567890abcdefghijklmnopqrstuv context 0 long
+done
+client
+done
+--
+3 10 UnknownName
+work w245 r239 context 18446744073709551615 priority low long
+routine r237
+start-io x2
+times 6 advance 0
+done
+routine r238
+done
+routine r239
+close w245
+times 1 disassociate
+done
+routine r240
+times 9 unless x0 set-event x3
+disassociate
+if x0 wait w245 cancel
+done
+client
+done
+client
+done
+client
+done
+--
+6 23 UnknownName
+pool p251 min 1
+mutex m252
+routine r2
+times 1 unless m252 release m252
+if m252 disassociate
+times 4 close-members x1 keep 0
+times 10000 on-return m252
+done
+routine r249
+times 10000 if m252 try-acquire m252
+done
+client
+done
+client
+close-pool p251
+times 7 unless m252 close-pool p251
+times 1 advance 0
+unless m252 acquire m252
+done
+--
+10 16 UnknownName
+pool p258 max 2
+work w259 r254 in p258 priority high persistent
+routine r_234567890abcdefghijklmnopqrst
+set-minimum p258 1
+close-pool p258
+set-maximum p258 2
+disassociate
+done
+  routine r254  
+times 1 unless x2 complete-next x3 9 18446744073709551615
+done
+--
+3 clients
+group g263
+routine r260
+times 4 close-group g263
+done
+routine r261
+done
+routine r262
+done
+client
+done
+client
+done
+--
+9 15 UnknownName
+section s268
+io i269 r265 priority normal long
+timer t270 r265 context 0 long persistent
+mutex m272
+routine r264
+done
+routine r265
+times 4 cancel-io i269
+close-members x0 cancel 5
+if s268 acquire m272
+done
+routine r266
+times 1 unless s268 cancel-io i269
+times 3 unless s268 advance 2
+done
+client
+unless m272 try-acquire s268
+if m272 wait t270 keep
+times 1 unless m272 simple r266 long persistent
+unless m272 simple r264 context 0 priority low long
+done
+client
+unless m272 start-io i269
+times 8 if m272 cancel-io i269
+unless m272 set-timer-ex t270 9223372036854775807 6 0
+times 10000 if s268 set-timer t270 none 4294967295 7
+done
+--
+6 4 UnknownName
+routine r274
+done
+routine r275
+done
+routine r276
+if x1 set-timer x1 0 7 0
+done
+client
+done
+--
+9 1 Unexpected
+mutex m278
+pool p281 min 2
+section s282
+mutex m283
+routine r277
+if s282 acquire s282
+times 10000 unless m278 may-run-long
+done
+clint
+acquire s282
+times 8 if s282 set-maximum p281 6
+release m278
+if s282 release m283
+done
+--
+4 clients
+section s288
+event e290 manual clear
+pool p3 min 5
+section s291
+routine r285
+unless s291 on-return s288
+times 1 if s291 disassociate
+if e290 may-run-long
+done
+routine r286
+if s291 close-pool p3
+times 1 set-event e290
+done
+routine r287
+times 10000 close-pool p3
+done
+client
+done
+client
+times 1 unless s291 acquire s291
+unless s288 acquire e290
+done
+client
+close-pool p3
+if e290 set-maximum p3 4294967295
+times 9 unless s288 set-minimum p3 7
+times 10000 set-minimum p3 0
+set-event e290
+done
+--
+20 30 UnknownName
+io i297 r296 priority normal persistent
+pool p298 max 9
+section s299
+mutex m300
+mutex m301
+routine r294
+times 10000 unless m301 close i297
+done
+routine r295
+if m300 wait i297 cancel
+times 8 unless m301 disassociate
+unless s299 complete-next i297 4294967295 9
+done
+routine r296
+try-acquire m301
+done
+client
+cancel-io i297
+unless s299 acquire m301
+times 9 unless m301 set-wait x0 m301 302
+done
+client
+times 2 unless m300 cancel-io i297
+times 2 cancel-io i297
+times 1 unless m300 cancel-io i297
+times 1 if m301 simple r296 in p298 long
+unless s299 acquire m300
+done
+--
+2 1 Unexpected
+routine r302
+r3 2
+client
+done
+client
+times 2 set-eventx1
+times 10000 simple r302 in x4 priority normal long group x1
+done
+--
+2 18 Unexpected
+mutex m304
+semaphore s306 9 1
+section s307
+group g0
+routine r303
+times 4 close-group g0
+times 10000 unless s306 acquire s307
+if s306 release m304
+done
+client
+times 10000 unless s307 advance 6
+times 2 if m304 simple r303 context 3 priority low persistent
+times 7 if m304 acquire m304
+if m304 close-group g0
+done
+client
+advance 0
+done
+client
+times 5 release s307
+times 10000 acquire m304
+release m304
+times 2 unless s306 release m304
+unless s307 is-timer-set x1
+done
+--
+2 clients
+io i312 r310
+routine r309
+done
+routine r310
+let l313 io r309 long
+done
+client
+times 1 simple r309 context 9 persistent
+times 2 start-io i312
+done
+--
+32 1 Unexpected
+group g317
+work w318 r314 context 5 priority low
+semaphore s319 5 2147483647
+pool p321 max 8 min 0
+pool p3 max 4294967295
+routine r314
+times 6 unless s319 try-acquire s319
+done
+routine r315
+on-return s319 2
+times 1 unless s319 close-group g317
+unless s319 advance 9223372036854775807
+done
+routine r316
+done
+routine r_234567890abcdefghijklmnopqrstu
+times 9 if s319 disassociate
+times 1 if s319 disassociate
+done
+client
+unless s319 close-members g317 keep 9
+times 10000 unless s319 acquire s319
+advance 9223372036854775807
+times 2 unless s319 close-group g317
+done
+client
+if s319 try-acquire s319
+unless s319 close w318
+done
+client
+if s319 acquire s319
+p3
+--
+2 18 Unexpected
+mutex m324
+semaphore s325 3 1
+semaphore s326 0 1
+routine r322
+done
+client
+done
+--
+15 9 NameTwice
+section s331
+event e333 auto set
+section s334
+semaphore s335 0 2147483647
+group g336
+routine r328
+unless s335 release s331
+disassociate
+if e333 close-group g336
+done
+routine r329
+times 8 try-acquire s335
+if e333 release s331
+done
+routine g336
+times 1 on-return s335 2147483647
+done
+client
+times 1 set-timer x0 none 0 0
+times 1 reset-event e333
+times 1 advance 5
+release-semaphore s335 9
+done
+client
+if s331 release-semaphore s335 1
+times 10000 unless s334 reset-event e333
+done
+--
+1 18 Unexpected
+semaphore s341 4 1
+routine r337
+  unless s341 simple r338 context 18446744073709551615 persistent  
+times 7 if s341 on-return s341 5
+done
+routine r338
+times 6 release-semaphore s341 4
+done
+routine r339
+times 2 unless s341 may-run-long
+done
+routine r340
+may-run-long
+times 10000 r340 s341 6
 done
 --
 5 1 Unexpected
-routine r904
+group g343
+group g344
+work w345 r342 context 2 priority normal long persistent
+mutex m0
+if e347 disassociate
+event e347 manual clear
+routine r342
+submit w345
+if e347 may-run-long
+if e347 disassociate
+done
+client
+times 8 if m0 acquire e347
+done
+--
+7 11 Unexpected
+event e349 auto clear
+section s4
+pool p350
+mutex m351
+routine r348
+times 4 unless e349 may-run-long
+unless s4 releasae s4
+done
+routine r6
+let l352 work r6 long
+times 3 if e349 set-minimum p350 0
+if s4 wait l352 cancel
+unless e349 simple r6 context 3 priority low
+done
+--
+1 18 Unexpected
+semaphore s356 0 0
+semaphore s357 9 1
+section s358
+io i359 r354
+mutex m360
+routine r353
+done
+routine r354
+issue-io i359 o2
+done
+routine r355
+unless s358 may-run-long
+let l361 work r354 context 6 long
+done
+--
+1 38 UnknownName
+work w_234567890abcdefghijklmnopqrst r364 context 0 0 priority high long persistent
+section s365
+section s367
+routine r362
+# if s365 wait w_234567890abcdefghijklmnopqrst keep
+unless s367 advance 0
+advance 5
+done
+routine r363
+times 7 if s367 may-run-long
+--
+1 clients
+timer t372 r370 priority normal long
+timer t373 r369 context 0 persistent
+semaphore s374 7 2147483647
+event e375 auto set
+semaphore s376 2147483647 2147483647
+pool p377 min 8
+routine r368
+wait t372 keep
+done
+routine r369
+times 2 if e375 set-maximum p377 4294967295
+done
+routine r370
+close-pool p377
+unless s376 advance 9223372036854775807
+done
+--
+11 1 Unexpected
+group g380
+mutex m381
+wait w382 r379 context 2 group g380 cancel r379
+routine r379
+times 1 if m381 acquire m381
+if m381 advance 0
+done
+client
+if m381 set-wait w382 m381 409
+done
 done
 client
 done
-clien9
-times 1 advance 2
-advance 0
-acquire x4
+# client
 done
+--
+4 20 UnknownName
+routine r384
+done
+client
+times 10000 unless x0 complete-io x1 5 18446744073709551615
+advance 9223372036854775807
+done
+client
+times 4 set-wait x2 x49 -797
+reset-event x1
+done routine
+client
+done
+--
+4 20 UnknownName
+group g385
+timer t387 r7 priority low
+routine r7
+times 10000 unless x0 set-maximum x2 0
+done
+client
+times 10000 set-timer-ex t387 -9223372036854775808 1 2
+done
+client
+unless x0 advance 3
+done
+client
+times 10000 simple r7 persistent
+times 10000 close-members g385 keep 8
+is-timer-set t387
+times 1 close-members g385 cancel 0
+done
+--
+1 clients
+pool p390
+event e391 manual clear
+routine r388
+if e391 reset-event e391
+done
+--
+5 1 Unexpected
+event e396 manual clear
+routine r393
+done
+routine r394
+e396
+routine r395
+if e396 set-event e396
+if e396 acquire e396
+try-acquire e396
+done
+routine r3
+times 5 try-acquire e396
+times 8 if if e396 set-event e396
+done
+client
+unless e396 advance 0
+times 9 set-event e396
+done
+client
+times 3 if e396 set-event e396
+times 1 unless e396 set-event e396
+done
+client
+done
+--
+1 66 UnknownName
+timer t397 r1 context 18446744073709551615 priority normal group x1
+pool p398 max 0 min 4294967295
+routine r1
+done
+client
+advance 4
+times 10000 is-timer-set c400 t397
+done
+client
+times 7 set-maximum p398 1
+set-timer t397 0 4294967295 7
+is-timer-set t397
+done
+client
+times 10000 is-timer-set t397
+times 10000 simple r1 context 0 in p398 long persistent
+close-pool p398
+done
+--
+2 16 Unexpected
+group g402
+semaphore s403 s405 8
+event e7 auto clear
+pool p404 min 2
+section s405
+routine r401
+times 1 unless s403 may-run-long
+done
+routiAe r3
+unless e7 try-acquire e7
+times 7 if e7 release-semaphore s403 1
+times 10000 unless e7 close-pool p404
+times 6 advance 7
+done
+--
+17 1 Unexpected
+section s408
+semaphore s409 2147483647 2147483647
+mutex m410
+work w411 r407 long persistent
+routine r1
+times 10000 unless s409 close w411
+times 5 release-semaphore s409 1
+done
+routine r406
+times 4 if s409 try-acquire s408
+done
+routine r407
+done
+client
+done
+client
+m410
+client
+done
+--
+2 clients
+mutex m415
+group g416
+group g417
+semaphore s419 0 2147483647
+routine r413
+unless s419 try-acquire m415
+let l420 io r413 priority high group g417
+unless m415 on-return s419
+times 1 close-group g417
+times 1 if m415 try-acquire s419
+done
+client
+times 3 if m415 simple r413 priority high persistent
+times 10000 if m415 close-group g416
+unless s419 close-group g416
+done
+--
+4 clients
+event e422 auto clear
+section s423
+routine r6
+unless e422 may-run-long
+done
+routine r421
+if e422 advance 4
+release s423
+done
+client
+unless s423 acquire e422
+done
+client
+unless e422 acquire e422
+reset-event e422
+times 1 try-acquire e422
+done
+client
+unless e422 acquire e422
+try-acquire e422
+set-event e422
+done
+--
+10 1 Unexpected
+section s428
+mutex m430
+mutex m431
+mutex m7
+group g432
+routine r425
+  disassociate  
+times 7 close-members g432 cancel 0
+done
+times 10000 if s428 release s428
+times 2 close-group g432
+times 1 simple r425 group g432
+done
+--
+1 1 Unexpected
+routiZe r433
+complete-io x0 4 7
+r433
+--
+11 6 Unexpected
+semaphore s_234567890abcdefghijklmnopqrstu 7 2147483647
+routine r434
+done
+client
+done
+client
+if s_234567890abcdefghijklmnopqrstu release-semaphore s_234567890abcdefghijklmnopqrstu 1
+unless s_234567890abcdefghijklmnopqrstu advance 6
+release-semaphore s_234567890abcdefghijklmnopqrstu 1
+times 1 unless s_234567890abcdefghijklmnopqrstu try-acquire s_234567890abcdefghijklmnopqrstu
+done done
+--
+16 1 Unclosed
+section s437
+routine r435
+done
+routine r436
+if s437 try-acquire s437
+done
+client
+if s437 try-acquire s437
+times 1 release s437
+done
+client
+times 1 if s437 try-acquire s437
+times 1 unless s437 release s437
+done
+client
+--
+2 1 Unexpected
+group g441
+rotine r438
+done
+routine r439
+times 1 close-group g441
+done
+routine r4
+close-members g441 keep 8
+done
+routine r440
+let l442 timer r439 priority high persistent
+if x2 complete-io x0 0 1
+may-run-long
+done
+client
+done
+client
+times 10000 simple r4 context 7 long persistent group g441
+times 3 close-group g441
+done
+--
+10 48 UnknownName
+# group g8
+routine r444
+times 7 disassociate
+times 1 advance 0
+done
+routine r445
+done
+client
+advance 8
+simple r445 context 18446744073709551615 group g8
+done
+--
+23 1 Unexpected
+mutex m450
+mutex m6
+group g452
+io i453 r447 persistent
+routine r446
+times 10000 if m450 start-io i453
+done
+routine r447
+done
+routine r448
+times 4 unless m450 complete-next i453 0 0
+unless m450 on-return m450
+times 7 unless m6 wait i453 cancel
+may-run-long
+unless m6 complete-next i453 6 5
+done
+routine r449
+may-run-long
+done
+client
+times 10000 cancel-io i453
+if m450 close i453
+m6
+client
+close-group g452
+unless m6 complete-next i453 6 9
+if m450 close-group g452
+times 4 unless m450 complete-next i453 0 0
+done
+--
+20 16 UnknownName
+section s0
+mutex m456
+semaphore s457 6 2147483647
+timer t458 r455
+semaphore s459 2147483647 2147483647
+  mutex m460  
+routine r454
+advance 9223372036854775807
+done
+routine r455
+disassociate
+times 2 if m456 on-return m460
+try-acquire m456
+times 1 set-timer-ex t458 9223372036854775807 1 0
+done
+routine r1
+times 9 set-timer t458 561 0 0
+done
+routine r7
+times 10000 if times set-timer-ex t458 0 0 8
+done
+client
+wait t458 keep
+done
+client
+set-timer t458 -45 0 3
+release m460
+done
+--
+1 18 Unexpected
+semaphore s465 3 1
+section s467
+routine r462
+times 8 try-acquire s465
+times 1 unless s465 disassociate
+done
+routine r463
+times 9 if s467 acquire s467
+done
+routine r464
+times 4 try-acquire s465
+unless s465 try-acquire s465
+acquire s465
+done
+client
+done
+client
+times 1 unless s467 acquire s465
+if s467 set-wait x4 none -9223372036854775808
+times 3 simple r463 context 8 priority high long persistent
+done
+--
+30 1 Unclosed
+mutex m471
+routine r468
+times 1 try-acquire m471
+release m471
+times 1 if m471 acquire m471
+done
+routine r7
+times 6 unless m471 simple r7 context 3
+unless m471 on-return m471
+done
+routine r469
+unless m471 try-acquire m471
+times 1 unless m471 acquire m471
+advance 3
+times 10000 unless m471 try-acquire m471
+done
+client
+times 9 if m471 acquire m471
+times 1 release m471
+if m471 release m471
+done
+client
+times 9 unless m471 advance 9223372036854775807
+times 5 if m471 try-acquire m471
+done
+client
+times 1 if m471 try-acquire m471
+let l479 io r7 priority normal persistent
+issue-io l479 o480
+--
+8 9 Unexpected
+section s486
+semaphore s487 8 8
+routine r481
+times 1 unless s487 try-acquire s487
+done
+routine r482
+times 9 if s486 on-return s487 2147483647
+times 9 releas s486
+done
+client
+unless s487 acquire s486
+done
+client
+unless s486 acquire s487
+unless s487 acquire s487
+times 3 release s486
+times 1 unless s487 try-acquire s486
+done
+client
+times 5 if s487 try-acquire s487
+complete-next x4 0 8
+if s486 try-acquire s486
+done
+--
+2 clients
+section s4
+group g489
+routine r488
+times 5 unless s4 release s4
+if s4 close-members g489 cancel 0
+done
+client
+unless s4 advance 1
+times 1 if s4 release s4
+times 1 unless s4 acquire s4
+times 10000 try-acquire s4
+times 9 if s4 simple r488 context 18446744073709551615 priority low long persistent
+done
+--
+3 clients
+group g494
+timer t495 r491 persistent group g494 cancel r491
+routine r490
+times 1 wait t495 keep
+disassociate
+times 1 close t495
+done
+routine r491
+done
+routine r492
+done
+routine r493
+times 1 is-timer-set t495
+wait t495 keep
+done
+client
+wait t495 keep
+done
+client
+times 5 close-members g494 cancel 0
+wait t495 cancel
+done
+--
+2 46 UnknownName
+wait w499 r497 context 4 priority high
+io i500 r496 context 18446744073709551615 in x4 persistent
+group g501
+timer t_234567890abcdefghijklmnopqrstuv r497 context 0 priority low long group g501
+io i502 r497 persistent group g501
+semaphore s503 9 1
+routine r496
+times 10000 if s503 close-members g501 cancel 0
+times 1 unless s503 try-acquire s503
+done
+routine r497
+times 10000 if s503 disassociate
+done
+--
+4 12 UnknownName
+pool p507
+routine r504
+advance 1
+times 6 if x1 on-return x2
+simple r_234567890abcdefghijklmnopqrstu context 0 long persistent
+done
+routine r505
+is-timer-set x3
+set-minimum p507 1
+done
+routine r_234567890abcdefghijklmnopqrstu
+close-pool p507
+done
+routine r506
+times 3 disassociate
+advance 0
+done
+client
+advance 0
+times 1 set-minimum p507 6
+done
+--
+6 1 Unclosed
+mutex m511
+section s512
+routine r510
+times 7 release s512
+times 1 if s512 try-acquire s512
+
+--
+1 12 UnknownName
+timer t515 r514 context 5 priority normal
+pool p516 max 3 min 0
+mutex m517
+group g518
+routine r513
+done
+done
+times 1 unless m517 acquire m517
+times 10000 if m517 set-maximum p516 6
+01
+client
+done
+client
+set-maximum p516 0
+times 1 unless m517 try-acquire m517
+done
+--
+3 clients
+group g7
+mutex m522
+mutex m523
+routine r4
+times 9 if m522 may-run-long
+if m522 advance 4
+unless m523 close-group g7
+done
+routine r519
+if m522 close-group g7
+times 10000 unless m523 release m522
+times 10000 if m523 acquire m523
+done
+routine r520
+times 10000 unless m523 close-members g7 cancel 2
+unless m523 may-run-long
+times 5 if m523 disassociate
+done
+routine r521
+unless m523 disassociate
+done
+client
+times 7 unless m523 advance 4
+times 9 if m523 try-acquire m523
+close-members g7 keep 5
+times 10000 release m523
+done
+client
+times 5 close-members g7 cancel 4
+times 7 unless m523 close-group g7
+done
+--
+1 27 Unexpected
+semaphore s526 2147483647 1
+routine r_234567890abcdefghijklmnopqrst
+unless s526 disassociate
+times 1 unless s526 advance 0
+unless s526 advance 1
+done
+client
+done
+client
+done
+client
+let l527 work r_234567890abcdefghijklmnopqrst priority high long persistent
+if s526 advance 6
+done
+--
+1 clients
+routine r0
+done
+routine r528
+done
+routine r529
+done
+--
+3 clients
+semaphore s534 5 5
+routine r530
+unless s534 advance 9
+times 5 unless s534 acquire s534
+if s534 release-semaphore s534 2
+times 1 unless s534 on-return s534 2147483647
+done
+routine r531
+times 7 if s534 on-return s534 2147483647
+if s534 release-semaphore s534 1
+done
+client
+done
+client
+done
+--
+6 11 WrongName
+group g543
+pool p544 max 4294967295 min 6
+timer t545 r537 context 0 group g543 cancel r7
+routine r7
+times 1 is-timer-set t545
+set-timer r538 none 4294967295 9
+times 4 is-timer-set t545
+done
+routine r537
+done
+routine r538
+done
+routine r539
+times 9 simple r7 context 3 in p544 priority high long persistent group g543
+done
+client
+unless x0 complete-io x2 7 18446744073709551615
+times 10000 close t545
+r537
+--
+4 16 UnknownName
+group g548
+wait w549 r547 context 9 priority normal long group g548
+routine r546
+times 8 unless x2 complete-next x0 2 3
+close w549
+done
+routine r547
+times 7 may-run-long
+if x4 release x0
+times 8 close w549
+advance 2
+done
+client
+unless x0 start-io x0
+done
+client
+times 7 close-members g548 keep 18446744073709551615
+done
+client
+times 1 close-group g548
+times 1 wait w549 keep
+done
+--
+4 21 UnknownName
+routine r551
+done
+client
+times 3 complete-io x1 4294967295 8
+times 1 simple r551 long
+done
+client
+times 1 set-event x0
+done
+client
+done
+--
+1 clients
+routine r553
+times 2 advance 9223372036854775807
+done
+--
+5 1 Unexpected
+event e556 auto clear
+section s557
+routine r555
+times 2 unless e556 reset-event e556
+007
+routine r4
+timAes 1 if s557 reset-event e556
+if s557 disassociate
+done
+routine r0
+may-run-long may-run-long
+done
+--
+1 clients
+wait w564 r563 context 18446744073709551615 persistent
+routine r560
+times 10000 set-wait w564 none none
+times 5 disassociate
+done
+routine r561
+times 1 may-run-long
+times 10000 close w564
+done
+routine r562
+close w564
+close w564
+done
+routine r563
+let l566 wait r562 context 0 persistent
+done
+--
+3 1 Unexpected
+semaphore s571 2 2
+routine r567
+r568
+times 9 if s571 disassociate
+if s571 acquire s571
+if s571 on-return s571
+done
+routine r568
+try-acquire s571
+advance 9223372036854775807
+done
+routine r569
+times 1 unless s571 disassociate
+times 4 simple r568 context 18446744073709551615 long persistent
+if s571 close-members x4 keep 9
+times 1 if s571 try-acquire s571
+done
+routine r570
+times 5 if s571 set-event x3
+if s571 advance 2
+if s571 acquire s571
+done
+client
+times 1 if s571 release-semaphore s571 6
+done
+client
+times 1 advance 9223372036854775807
+done
+client
+unless s571 acquire s571
+times 10000 if s571 release-semaphore s571 8
+release-semaphore s571 5
+if s571 acquire s571
+done
+--
+19 26 UnknownName
+io i578 r576 long persistent
+semaphore s582 2147483647 2147483647
+semaphore s5 2147483647 2147483647
+section s583
+io i584 r574 priority normal
+group g3
+routine r574
+on-return s5 5
+times 6 wait i578 cancel
+done
+routine r575
+times 6 unless s582 release-semaphore s5 2
+unless s583 cancel-io i578
+done
+routine r576
+issue-io i584 o585
+done
+routine r577
+times 1 if s583 set-wait x2 s583 -619
+unless s5 may-run-long
+times 1 if s582 simple r576 long
+done
+--
+1 18 Unexpected
+semaphore s590 7 1
+mutex m591
+group g592
+routine r586
+unless m591 may-run-long
+times 10000 unless s590 release-semaphore s590 9
+times 1 unless m591 on-return s590
+done
+routine r587
+done
+routine r588
+unless s590 close-group g592
+times 2 try-acquire s590
+on-return s590 2
+on-return s590 8
+times 5 acquire s590
+done
+routine r589
+times 6 if s590 release-semaphore s590 3
+unless m591 release m591
+done
+client
+times 1 release-semaphore s590 3
+times 1 unless s590 close-group g592
+done
+client
+unless m591 release-semaphore s590 1
+times 10000 unless m591 close-group g592
+times 5 if s590 try-acquire s590
+advance 8
+unless m591 release-semaphore s590 6
+done
+--
+1 11 UnknownName
+work w595 r594 priority low
+semaphore s596 7 7
+semaphore s3 2147483647 2147483647
+pool p5 max 6
+routine 594
+done
+client
+let l599 io r594 context 3 long
+4294967295 3
+acquire s596
+done
+--
+3 clients
+pool p601
+mutex m604
+section s605
+event e606 manual set
+routine r600
+times 1 unless m604 set-minimum p601 4
+done
+client
+times 10000 unless e606 release m604
+times 10000 try-acquire e606
+done
+client
+if s605 advance 5
+times 8 unless s605 simple r600 context 6 in p601 priority low
+reset-event e606
+times 1 if e606 set-minimum p601 0
+done
+--
+2 8 UnknownName
+routine r607
+unless x0 set-minimum x4 4294967295
+advance 9223372036854775807
+done
+routine r608
+done
+routine r609
+done
+routine r5
+disassociate
+times 4 may-run-long
+done
+client
+done
+client
+times 8 simple r609 context 0 persistent
+times 9 release-semaphore x3 2
+complete-next x4 7 6
+done
+client x
+advance 3
+advance 5
+unless x2 start-io x3
+times 10000 simple r609 priority high long persistent
+done
+--
+1 27 Unexpected
+semaphore s611 2147483647 1
+se\tmaphore s613 2147483647 1
+routine r1
+done
+routine r610
+if s613 disassociate
+try-acquire s613
+times 1 if s611 acquire s611
+2 s613 try-acquire s611
+if s611 release-semaphore s611 1
+done
+client
+done
+--
+1 clients
+routine r614
+times 3 advance 4
+let l616 wait r614 context 1 priority high
+disassociate
+times 8 advance 0
+done
+--
+22 6 Unexpected
+event e5 auto set
+routine r6
+times 1 disassociate
+if e5 disassociate
+unless e5 simple r618 persistent
+done
+routine r617
+times 1 if e5 on-return e5
+if e5 may-run-long
+done
+routine r618
+times 4 unless e5 set-event e5
+done
+routine r619
+unless e5 advance 4
+times 2 if e5 try-acquire e5
+unless e5 on-return e5
+done
+client
+if e5 set-event e5
+times 5 if e5 advance 9223372036854775807
+done done
+client
+if e5 try-acquire e5
+done
+--
+1 18 Unexpected
+semaphore s622 0 0
+section s623
+routine r620
+done
+routine r621
+times 10000 if s623 on-return s622
+if s622 advance 0
+done
+client
+times 10000 unless s622 acquire s623
+done
+client
+release s623
+unless s622 acquire s623
+times 1 advance 1
+unless s623 acquire s623
+times 1 if s623 acquire s622
+done
+--
+3 1 Unexpected
+routine r4
+done
+advance 1
+done
+routine r4
+may-run-long
+done
+client
+done
+client
+times 1 advance 9223372036854775807
+done
+--
+1 18 Unexpected
+semaphore s627 6 1
+pool p6 max 0
+mutex m628
+group g629
+work w630 r626 context 18446744073709551615 in p6 priority normal long group g629
+routine r626
+if s629 release m628
+times 3 unless m628 may-run-long
+unless m628 close-group g629
+close-group g629
+done
+client
+unless m628 acquire s627
+if m628 set-minimum p6 1
+done
+client
+unless m628 release-semaphore s627 2147483647
+done
+--
+7 1 Unexpected
+event e633 auto set
+routine r_234567890abcdefghijklmnopqrst
+times 1 unless e633 try-acquire e633
+unless e633 try-acquire e633
+done
+routine r7
+r7
+routine r0
+times 9 complete-next x0 42949\r7295 18446744073709551615
+times 8 if e633 may-run-long
+done
+4294967296
+set-event e633
+unless e633 reset-event e633
+times 3 unless e633 acquire e633
+done
+client
+done
+--
+2 clients
+event e641 auto clear
+pool p642
+semaphore s643 7 7
+section s4
+routine r634
+times 6 on-return e641
+done
+routine r635
+times 1 if s4 advance 7
+times 1 unless s4 release-semaphore s643 2147483647
+times 2 unless s4 close-pool p642
+times 8 if s4 release-semaphore s643 2
+done
+routine r636
+done
+routine r637
+times 6 if e641 reset-event e641
+times 1 advance 9223372036854775807
+done
+client
+times 1 unless s4 reset-event e641
+done
+--
+3 31 UnknownName
+mutex m648
+routine r645
+times 10000 unless m648 close x4
+done
+routine r646
+if m648 on-return m648
+done
+routine r647
+done
+client
+unless m648 advance 5
+unless m648 try-acquire m648
+times 1 unless m648 release m648
+times 10000 try-acquire m648
+done
+client
+times 10000 if m648 acquire m648
+release m648
+done
+--
+2 12 UnknownName
+routine r650
+times 1 if x1 set-maximum x1 2
+done
+client
+done
+--
+2 12 UnknownName
+routine r652
+times 4 if x4 close-members x2 cancel 0
+routine r654
+routine r653
+unless x0 close-pool x4
+done
+done
+advance 1
+done
+done
+routine r655
 client
 done
 --
 4 1 Unexpected
-routine r908
-disassociate
-  #done  
-routine r909
+routine r_234567890abcdefghijklmnopqrstu
+simple r_234567890abcdefghijklmnopqrstu context 7 long persistent
 done
---
-3 27 Unexpected
-pool p913 max 7 min 6
-io i915 r911 in p913 priority high long persistent
-semaphore r911 2147483647 1
-group g919
-mutex m920
-mutex m921
-semaphore 2147483647 0 x 0
-pool p922
-routine r910
 done
-routine r911
-advance 0
-times 1 simple r911 long persistent group g919
-done
-routine r912
-issue-io i915 o923
 advance 1
+routine r658
+client
+advance 9223372036854775807
+done
+--
+4 30 Unexpected
+io i662 r659 priority low
+event e663 auto set
+routine r659
+times 10000 try-acquire e663 done
+if e663 reset-event e663
+done
+routine r660
+times 10000 unless e663 close i662
+unless e663 on-return e663
+if \t663 on-return e663
+done
+routine r4
+done
+routine r661
+done
+client
+unless e663 wait i662 cancel
+times 4 wait i662 cancel
+unless e663 close i662
+done
+--
+5 13 Unexpected
+semaphore s664 4 4
+pool p665
+routine r8
+times 1 if s664 may-run-long
+unless s664 -9223372036854775808 s664
+done
+client
+set-minimum p665 0
+done
+--
+2 8 Unexpected
+semaphore s667 2 2147483647
+section 
+pool p671
+section s672
+group g673
+work w674 r666 long group g673
+routine r666
+tames 1 if s667 release-semaphore s667 7
+times 6 if s667 wait w674 cancel
+times 1 close-members g673 keep 18446744073709551615
+times 1 if s672 release s668
+times 1 if s672 close w674
+done
+--
+4 6 NameTwice
+group g676
+pool p677 min 0
+timer t678 r675 in p677 priority normal persistent
+pool g676 max 5
+mutex m680
+work w681 r675 in p679 priority low long persistent
+routine r675
+times 10000 unless m680 on-return m680
+close t678
+done
+client
+if m680 submit w681
+times 1 unless m680 set-timer-ex t678 none 4294967295 
+times 1 unless m680 acquire m680
+times 10000 close-group g676
+done
+client
+close-pool p677
+done
+--
+8 7 Unexpected
+mutex m686
+mutex m687
+group g688
+event e689 auto clear
+routine r682
+times 1 close-group g688
+unless m687 disassociate
+times if 1 if m687 close-members g688 keep 3
+times 5 unless e689 close-members g688 keep 0
+done
+routine r683
+times 4 if e689 close-group g688
+times 3 if m686 on-return e689
+times e689 may-run-long
+done
+routine r684
+unless m686 close-members g688 keep 2
+unless m686 reset-event e689
+done
+client
+unless m687 set-timer-ex x3 -922337203684775808 0 5
+set-event e689
+let l690 timer r684 priority normal
+done
+client
+times 9 if e689 reset-event e689
+times 10000 unless m686 try-acquire m686
+times 10000 if m687 close-group g688
+times 1 unless e689 acquire m687
 done
 client
 done
 --
-4 clients
-pool p926 max 4294967295
-event e2 auto clear
-io i927 r_234567890abcdefghijklmnopqrst in p926 priority normal long persistent
-pool p928
-routine r_234567890abcdefghijklmnopqrst
-times 1 reset-event e2
+7 19 UnknownName
+section s695
+section s696
+pool p697
+mutex m1
+event e4 auto set
+routine r691
+if e4 close-group x1
+times 9 if e4 reset-event e4
+if m1 disassociate
 done
-routine r924
-times 10000 advance 0
-times 10000 close-pool p928
+routine r692
+times 1 if m1 advance 9223372036854775807
+times 1 unless s695 on-return s696
+unless s695 disassociate
+times 4 unless e4 set-event e4
+times 2 on-return m1
 done
-routine r925
-set-maximum p928 0
-advance 0
-done
-client
-done
-client
-reset-event e2
-times 1 advance 2
-done
-client
+routine r693
+times 1 if s695 set-event e4
 done
 --
-5 55 UnknownName
-section s934
-mutex m935
-mutex m937
-group g940
-io i942 r929 context 0 priority low group g940 cancel r932
-routine r929
-issue-io i942 o943
-close i942
-times 10000 disassociate
+3 9 NameTwice
+section s701
+section s705
+section s705
+routine r698
+times 10000 if s701 acquire acquire s701
+times 7 unless s701 disassociate
+unless s705 disassociate
+unless s701 release s705
 done
-done
-routine r931
-simple r930 priority low group g940 cancel r930
-times 8 close i942
-times 5 may-run-long
-done
-# routine r932
-times 3 disassociate
-times 10000 close i942
-let l944 work r932 context 18446744073709551615 priority normal long persistent
-done
-client
-times 8 wait i942 cancel
-close-members g940 cancel 7
-times 10000 wait i942 keep
-done
-client
-cancel-io i942
-acquire m937
-wait i942 cancel
-done
-client
-times 10000 disassociate
-done
---
-5 1 Unexpected
-semaphore s947 9 2147483647
-mutex m950
-section s951
-event e952 auto clear
-times 5 disassociate
-semaphore s954 7 7
-routine r945
-times 5 set-event e952
-semaphore s953 0 2147483647
-may-run-long
-done
-routine r946
-advance 6
-done
-client
-advance 6
-reset-event e952
-set-event e952
-times 6 reset-event e952
+routine r699
 done
 client
 done
 client
-acquire e952
-let l957 wait r946
-times 10000 set-wait l957 s951 264
-times 5 advance 4
-done
---
-4 7 NameTwice
-semaphore s961 2 2
-io i962 r7 priority normal long
-semaphore s964 3 2147483647
-mutex s961
-mutex m966
-wait w967 r958
-semaphore s969 7 7
-routine r958
-done
-routine r959
-times 8 set-wait w967 none 0
-times 8 disassociate
-done
-routine r960
-done
-routine r7
-times 1 set-wait w967 m965 970
+acquire s701
+times 10000 unless s705 set-timer-ex x0 9223372036854775807 4294967295 6
+unless s705 try-acquire s701
 done
 client
-times 10000 wait w967 keep
-times 9 close w967
-done
---
-6 17 Unexpected
-mutex m974
-timer t975 r972 long persistent
-event e976 auto set
-mutex m977
-semaphore s978 3 2147483647
-routine routine r971
-done
-routine r972
-let l983 timer r973 long
-done
-routine r973
-times 5 release-semaphore s978 9
-done
-client
-done
---
-19 9 Unexpected
-semaphore s990 4 2147483647
-section s991
-pool p992 min 4
-section s993
-event e0 manual clear
-pool p994 max 4294967295 min 0
-work w995 r986 in p994 persistent
-routine r985
-times 1 set-maximum p994 4294967295
-on-return s990
-done
-routine r986
-done
-routine r987
-done
-routine r988
-done
-client
-times 9 rZlease s993
-close-pool p994
-set-event e0
-let l996 io r988 context 5 priority low persistent
-done
-client
-set-maximum p992 2
-close w995
-set-event e0
-done
---
-4 clients
-io i999 r997 context 8 long persistent
-group g1000
-routine r997
-times 1 close i999
-times 5 advance 7
-done
-routine r998
-times 10000 close-members g1000 cancel 0
-times 6 start-io i999
-done
-client
-done
-client
-start-io i999
-cancel-io i999
-done
-client
-start-io i999
-start-io i999
-times 1 cancel-io i999
-times 8 advance 9223372036854775807
-done
---
-3 clients
-section s1002
-section s1003
-pool p8 min 0
-group g1004
-event e1005 manual clear
-timer t1006 r0 context 18446744073709551615 in p8 group g1004
-routine r0
-let l1007 wait r1001 context 18446744073709551615 in p8 long persistent group g1004
-close-pool p8
-times 1 set-wait l1007 e1005 484
-done
-routine r1001
-may-run-long
-let l1009 wait r1001 context 9 in p8 priority low long persistent group g1004 cancel r1001
-times 3 on-return s1002
-set-wait l1009 none 493
-done
-client
-times 7 set-timer-ex t1006 0 7 4
-times 2 release s1003
-times 3 acquire s1002
-set-timer t1006 -9223372036854775808 4294967295 0
-done
-client
-times 1 wait t1006 cancel
-done
---
-19 11 UnknownName
-pool p1012
-pool p1014 max 9
-routine r0
-times 10000 set-minimum p1014 0
-times 1 set-minimum p1014 0
-set-minimum p1014 0
-times 5 set-minimum p1014 7
-done
-routine r1010
-times 10000 simple r0 in p1012 long
-advance 9
-set-minimum p1014 1
-done
-routine r1011
-let l1016 work r1011 context 18446744073709551615
-set-maximum p1014 4294967295
-times 1 set-maximum p1012 4294967295
-times 1 advance 2
-on-return x2
-done
---
-13 1 Unexpected
-routine r1017
-disassociate
-times 4 advance 0
-done
-client
-times 4 advance 3
-simple r1017 context 0 priority normal persistent
-times 5 advance 1
-done
-client
-advance 0
-times 3 advance 3
-x
-client
-dona
---
-3 7 NameTwice
-pool p1020 max 0
-mutex m5
-mutex m5
-work w1021 r1018 in p1020 persistent
-routine r1018
-times 1 disassociate
-times 1 close-pool p1020
-set-minimum p1020 0
-done
-routine r1019
-times 1 may-run-long
-submit w1021
 done
 --
 6 1 Unexpected
-routine r1022
-done
-routine r1023
-times 5 may-run-long
+group g708
+event e709 auto set
+work w710 r707 context 8 priority normal persistent group g708 cancel r707
+routine r706
+times 1 unless e709 wait w710 keep
+routine r707
+times 1 unless e709 wait w710 keep
 # done
+--
+2 clients
+event e712 auto set
+pool p713 max 4294967295 min 2
+semaphore s4 5 5
+mutex m714
+routine r711
+times 5 if s4 close-pool p713
+unless s4 advance 0
+done
+routine r4
+if m714 disassociate
+if m714 release-semaphore s4 2147483647
+if s4 release m714
+done
 client
+times 4 if s4 reset-event e712
+times 10000 unless e712 release-semaphore s4 1
+times 9 release-semaphore s4 1
+done
+--
+7 9 NameTwice
+section s717
+section s719
+semaphore s720 0 2147483647
+routine r4
+release s717
+done
+routine r4
+done
+routine r716
+times 2 if s719 may-run-long
+times 1 release-semaphore s720 1
+done
+--
+7 23 UnknownName
+group g726
+semaphore s727 1 1
+routine r721
+close-group g726
+unless s727 may-run-long
+if s727 release-semaphore s727 1
+times 1 complete-next x2 4294967295 0
+done
+routine r722
+if s727 advance 3
+try-acquire s727
+close-members g726 cancel 18446744073709551615
+times 1 close-group g726
+times 1 if s727 release-semaphore s727 2147483647
+done
+routine r723
+done
+routine r724
+times 2 may-run-long
+done
+--
+7 16 UnknownName
+pool p731
+routine r728
+advance 7
+done
+client
+set-maximum p731 4294967295
+times 9 unless x2 close-members x4 cancel 0
+do e
+--
+3 1 Unexpected
+routine r732
+done
+r732
+times 2 advance 4
 times 8 advance 9223372036854775807
-times 10000 advance 8
-times 1 advance 9
-is-timer-set x4
 done
 client
-times 10000 advance 5
-times 10000 advance 6
-advance 9
-done
-client
-let l1025 work r1023 persistent
+advance 8
+set-wait x4 x0 -478
 done
 --
-3 clients
-section s2
-section s1028
-io i1029 r1026 priority high persistent
-pool p1031 max 5 min 3
-routine r1026
-done
-routine r7
-issue-io i1029 o1032
-times 1 close i1029
+2 1 Unexpected
+routine r737
+routine r737
+times 1 close-pool x0
+--
+4 clients
+section s740
+semaphore s741 3 2147483647
+pool p744 max 8
+pool p745 min 9
+wait w746 r739 in p745 priority normal
+routine r739
+times 5 unless s740 on-return s740
+unless s741 advance 3
+unless s741 may-run-long
 done
 client
-close-pool p1031
+set-minimum p744 0
+times 5 if s741 close-pool p745
+times 10000 if s740 release s740
 done
 client
-simple r7 priority low long persistent
+times 6 try-acquire s740
+times 5 set-maximum p744 4294967295
+done
+client
+let l748 wait r739 context 3
+times 10000 unless s740 set-maximum p745 4294967295
 done
 --
-2 21 UnknownName
-routine r1033
-times 1 close-group x3
+11 6 Unexpected
+mutex m7
+routine r749
+if m7 release m7
+times 10000 on-return m7
 done
-routine r1034
-times 3 disassociate
-times 10000 simple r1035 context 0 long
-times 8 advance 1
+routine r750
+times 6 unless m7 advance 0
+if m7 acquire m7
 done
-routine r1035
+routine r751
+times
+client
+times 1 unless m7 set-wait x2 m7 0
+if m7 release m7
+unless m7 rel~ase m7
+times 1 if m7 try-acquire m7
 done
-routine r1036
-advance 9
-times 10000 advance 9223372036854775807
-times 3 disassociate
+--
+4 clients
+event e753 manual clear
+io i754 r2 context 0 long
+event e755 manual set
+section s756
+routine r2
+done
+client
+unless s756 close i754
+if s756 wait i754 keep
+unless e753 reset-event e755
+done
+client
+close i754
+done
+client
+unless e753 start-io i754
+done
+--
+2 clients
+io i7 r_234567890abcdefghijklmnopqrstu priority normal long
+routine r757
+wait i7 keep
+done
+routine r_234567890abcdefghijklmnopqrstu
+times 10000 close i7
+advance 5
+done
+routine r2
+done
+client
+times 1 cancel-io i7
+done
+--
+3 12 UnknownName
+semaphore s762 2147483647 2147483647
+routine r759
+times 1 if s76 try-acquire s762
+times 8 if s762 release-semaphore s762 2147483647
+unless s762 release-semaphore s762 1
+if s762 release x2
+times 1 unless s762 acquire s762
+done
+routine r760
+times 5 if s762 advance 6
+times 1 unless s762 start-io x3
+unless s762 try-acquire s762
+done
+--
+2 18 Unexpected
+wait w765 r764 priority low long persistent
+event e766 manual 
+event e_234567890abcdefghijklmnopqrst manual clear
+routine r763
+e_234567890abcdefghijklmnopqrst
+routine r764
+done
+--
+1 1 Unexpected
+unless e770 on-return s3
+event e770 auto clear
+routine r767
+times 1 unless e770 relAase s3
+may-run-long
+done
+routine r768
+section s3
+times 8 try-acquire e770
+times 10000 advance 4
+release s3
+unless s3 acquire s3
+done
+client
+unless s3 try-acquire e770
+unless e770 advance 8
+unless s3 cancel-io x0
+done
+--
+4 clients
+group g773
+wait w774 r771 priority low group g773
+io i7 r771 persistent
+routine r771
+times 10000 simple r771 long persistent
+done
+client
+done
+client
+done
+client
+times 1 set-wait w774 none 9223372036854775807
+close-group g773
+times 1 close-group g773
+times 10000 complete-next i7 6 2
+done
+--
+2 clients
+section s778
+mutex m779
+event e780 auto set
+semaphore s0 1 1
+routine r775
+if s778 release s778
+unless m779 may-run-long
+times 1 unless e780 try-acquire s778
+done
+routine r776
+times 8 acquire m779
+done
+routine r777
+times 3 may-run-long
+times 1 unless s0 disassociate
+done
+client
+release-semaphore s0 2147483647
+times 7 if m779 try-acquire s778
+times 6 set-event e780
+done
+--
+1 7 Unexpected
+mutex 1m786
+routine r782
+times 5 on-return m786
+unless m786 advance 9223372036854775807
+unless m786 release m786
+times 10000 on-return m786
+advance 9223372036854775807
+done
+routine r783
+advance 0
+done
+routine r784
+times 1 unless m786 try-acquire m786
+times 3 acquire m786
+if m786 submit x0
+done
+routine r785
+if m786 may-run-long
+unless m786 acquire m786
+times 1 submit x0
+on-return m786
+done
+client
+done
+client
+let l789 wait r783 long persistent group x1
+times 1 try-acquire m786
+times 6 unless m786 simple r783 context 0 long
+done
+client
+unless m786 wait x1 keep
+advance 9223372036854775807
+unless m786 advance 5
+times 10000 if m786 try-acquire m786
+times 1 acquire m786
 done
 --
 1 clients
-event e1041 auto clear
-section s1042
-group g1043
-pool p1044 min 6
-section s1045
-wait w1046 r1039 long
-routine r1037
-times 1 release s1042
-close-group g1043
-done
-routine r1038
-set-maximum p1044 4294967295
-advance 0
-times 10000 acquire e1041
-times 4 set-maximum p1044 4294967295
-done
-routine r1039
-times 1 on-return e1041
-let l1047 wait r1039 long group g1043 cancel r1038
-done
---
-3 19 Unexpected
-section s3
-section s1051
-semaphore s1052 0 0
-group g1
-routine r1048
-times 3 release s1051
-release-semaphore s1052 4
-times 1 advance 3
-done
-routine r1049
-times 10000 10001 s1051
-done
-routine r1050
-release s3
-times 10000 on-return s1052 9
-times 1 close-members g1 keep 1
-done
-client
-times 9 close-group g1
-acquire s3
-acquire s1051
-release-semaphore s1052 4
-done
-client
-close-members g1 cancel 7
-times 3 close-group g1
-done done
---
-2 12 UnknownName
-group g1057
-wait w1058 r1056 priority normal persistent group g1057
-pool p1059 min 4
-routine r1055
-times 1 close-pool p1059
-set-minimum p1059 0
-times 1 disassociate
-times 2 simple r1056 context 18446744073709551615 priority low long group g1057 cancel r1056
-d9ne
-routine r1055
-advance 9223372036854775807
-close-pool p1059
-done
---
-3 10 Unexpected
-section s1062
-event e1065 auto clear
-io i1066 r_234567890abcdefghijklmnopqrstuv context 18446744073709551615 priority normal long
-routine r_234567890abcdefghijklmnopqrstuv
-times 1 advance 7
-done
-routine r1060
-on-return e1065
-advance 0
-issue-io i1066 o1068
-done
-routine r1061
-issue-io i1066 o1069
-release s1062
-done
-client
-issue-io i1066 o0
-wait i1066 keep
-release s1062
-times 5 cancel-io i1066
-done
-client
-done
-client
-wait i1066 cancel
-cancel-io i1066
-done
---
-3 18 Unexpected
-mutex m1074
-section s1075
-wait w1076 r1071 conztext 0 long persistent
-event e1077 auto set
-io i1078 r1073 priority normal long persistent
-section s4
-routine r1071
-done
-routine r1072
-wait i1078 cancel
-times 8 on-return e1077
-wait i1078 cancel
-# close i1078
-close w1076
-done
-routine r1073
-times 1 disassociate
-done
-client
-issue-io i1078 o1079
-issue-io i1078 o1080
-times 1 set-wait w1076 m1074 0
-done
-client
-done
-client
-acquire e1077
-times 1 acquire s4
-issue-io i1078 o1081
-times 1 set-event e1077
-done
---
-4 11 UnknownName
-routine r1083
-done
-routine r7
-set-timer x0 -380 0 7
-done
-routine r1084
-times 10000 may-run-long
-times 1 is-timer-set x4
-done
-routine r1
-times 4 may-run-long
-disassociate
-done
-client
-done
-client
-advance 4
-times 10000 simple r1083 priority low long
-done
---
-13 9 NameTwice
-group g1089
-routine r2
-done
-routine r1087
-done
-routine r1088
-let l1092 wait r1087 context 0 priority normal
-times 1 close-members g1089 keep 9
-times 1 close-members g1089 keep 5
-times 10000 close l1092
-close-members g1089 cancel 5
-done
-routine r2
-close-members g1089 keep 18446744073709551615
-simple r2 priority normal long persistent group g1089 cancel r2
-done
---
-3 19 Unexpected
-event e1094 manual clear
-semaphore s1096 2147483647 2147483647
-semaphore s1097 9 1
-semaphore s1098 6 1
-mutex m1100
-section s_234567890abcdefghijklmnopqrstu
-routine r1093
-times 1 may-run-long
-reset-event e1094
-times 5 set-event e1094
-done
---
-5 9 Unexpected
-routine r1103
-disassociate
-done
-routine r1104
-times 1 r1103
-times 1 may-run-long
-done
-routine r1105
-advance 9223372036854775807
-times 6 may-run-long
-done
-routine r1106
-done
-client
-times 2 simple r1104 priority low long
-times 5 advance 0
-done
---
-11 15 UnknownName
-mutex m1109
-pool p1110 max 2
-mutex m1111
-routine r1107
-times 10000 set-minimum p1110 3
-release m1109
-times 4 set-maximum p1110 1
-done
-routine r1108
-times 2 set-maximum p1110 6
-close-members x3 cancel 18446744073709551615
-times 9 close-pool p1110
-done
-client
-times 7 start-io x2
-set-minimum p1110 9
-set-maximum p1110 0
-done
-client
-set-maximum p1110 7
-close-pool p1110
-times 8 release m1109
-set-minimum p1110 4294967295
-done
---
-6 24 Unexpected
-semaphore s1114 2147483647 2147483647
-mutex m1
-mutex m1116
-mutex m_234567890abcdefghijklmnopqrst
-timer t1117 r1112 context 1 long
-event e1118 auto clear m1116
-routine r7
-let l1119 io r1112 long
-is-timer-set t1117
-set-timer t1117 0 6 3
-done
-routine r1112
-done
-release m_234567890abcdefghijklmnopqrst
-times 7 disassociate
-times 1 reset-event e1118
-done
---
-3 clients
-group g1121
-mutex m1122
-pool p1123 max 4294967295
-mutex m1124
-event e1125 manual clear
-routine r8
-times 1 set-maximum p1123 3
-may-run-long
-advance 6
-times 10000 disassociate
-done
-client
-times 7 set-maximum p1123 3
-reset-event e1125
-times 2 close-group g1121
-done
-client
-close-group g1121
-times 1 close-group g1121
-set-minimum p1123 1
-reset-event e1125
-times 10000 set-event e1125
-done
---
-17 1 Unexpected
-mutex m1131
-pool p1132 min 0
-routine r1126
-times 2 advance 9
-may-run-long
-set-maximum p1132 0
-done
-routine r1127
-may-run-long
-times 7 may-run-long
-times 3 set-maximum p1132 3
-times 10000 set-maximum p1132 0
-set-minimum p1132 0
-done
-routine r1128
-times 1 set-minimum p1132 4294967295
-r1129
-routine r1129
-on-return m1131
-disassociate
-let l1133 work r1126 context 7 in p1132 priority low
-advance 2
-done
-client
-times 9 acquire m1131
-times 9 release m1131
-times 5 release m1131
-done
-done
-times 1 release m1131
-set-minimum p1132 0
-times 3 set-maximum p1132 9
-advance 2
-done
-  client  
-client
---
-3 12 UnknownName
-pool p1138 min 4294967295
-group g1139
-work w1140 r1136 context 0 in p1138 persistent group g1139 cancel r1136
-io i1141 r1136 context 18446744073709551615 in p1138 persistent
-mutex m1142
-wait w1143 r1137 context 6 priority normal persistent group g1139 cancel r1137
-pool p1144 max 6
-1 r1136
- one
-routine r1137
+work w790 r3 long
+routine r3
 done";

@@ -38,6 +38,7 @@ c1 start-io 3 -> started 4
 c1 issue-io 3 -> operation 18446744073709551615
 c1 cancel-io 3 -> cancelled 0
 c1 complete-io 4 4294967295 512 -> refused no-operation
+c1 complete-next 65535 4294967295 18446744073709551615 -> queued 4 1
 c1 wait work 3 keep -> begun 5 4
 c1 end -> notice o1 r2 x3 y4
 c1 end -> ended
@@ -47,6 +48,7 @@ c1 create-event manual clear -> made 1
 c1 create-semaphore 0 2147483647 -> refused over-maximum 0
 c1 create-lock section owned -> made 3
 w64 acquire 9 -> refused in-wait
+w64 try-acquire 9 -> flag no
 w1 set-event 2 -> refused wrong-kind
 w1 reset-event 2 -> ok
 w1 release-semaphore 7 12 -> count 2147483647 0 0
@@ -132,6 +134,8 @@ fn rare_lines_are_found(rt: HostRuntime) {
         "c1 start-io 3\n",
         "c1 issue-io 3\n",
         "c1 complete-io 8 995 0\n",
+        "c1 complete-next 3 995 0\n",
+        "c1 try-acquire 1\n",
         "c1 is-timer-set 5\n",
         "c1 wait work 1 keep\n",
     ] {
@@ -149,6 +153,9 @@ fn rare_lines_are_found(rt: HostRuntime) {
         "c1 wait work 1 keep -> begun 3 0\n",
         "c1 end -> ended\n",
         "c1 is-timer-set 5 -> flag yes\n",
+        "c1 complete-next 3 995 0 -> queued 8 1\n",
+        "c1 try-acquire 1 -> flag yes\n",
+        "w1 try-acquire 1 -> flag no\n",
         "c1 submit 9 -> refused no-such\n",
     ] {
         let found = read_rare_entry(line.as_bytes(), &mut entry).is_some();

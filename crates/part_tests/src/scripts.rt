@@ -239,6 +239,110 @@ client
 times 0 advance 1
 done
 --
+2 clients
+event e manual clear
+mutex m
+routine r
+if e may-run-long
+times 2 unless m on-return e
+done
+client
+if m try-acquire e
+times 10000 if e acquire m
+done
+--
+3 4 UnknownName
+event e manual clear
+client
+if x advance 1
+done
+--
+3 8 WrongName
+pool p
+client
+unless p advance 1
+done
+--
+4 8 WrongName
+routine r
+done
+client
+unless r advance 1
+done
+--
+3 4 Unexpected
+event e manual clear
+client
+if none advance 1
+done
+--
+3 5 Unexpected
+event e manual clear
+client
+if e
+done
+--
+3 16 Unexpected
+event e manual clear
+client
+if e advance 1 e
+done
+--
+3 6 Unexpected
+event e manual clear
+routine r
+if e let w work r
+done
+--
+4 10 Unexpected
+event e manual clear
+io i r
+routine r
+unless e issue-io i o
+done
+--
+3 6 Unexpected
+event e manual clear
+client
+if e times 2 advance 1
+done
+--
+3 14 Unexpected
+event e manual clear
+client
+times 2 if e times 2 advance 1
+done
+--
+3 10 Unexpected
+event e manual clear
+client
+unless e if e advance 1
+done
+--
+3 6 Unexpected
+event e manual clear
+client
+if e unless e advance 1
+done
+--
+3 6 Unexpected
+event e manual clear
+client
+if e may-run-long
+done
+--
+3 15 WrongName
+event e manual clear
+client
+complete-next e 0 0
+done
+--
+3 16 UnknownName
+event e manual clear
+client
+times 2 unless x advance 1
+done
+--
 5 13 UnknownName
 io i r
 routine r
@@ -450,6 +554,63 @@ fn parts_make_the_calls_of_their_lines(rt: HostRuntime) {
     expect_part(&rt, rt.alloc(), &script, Part::Client(4), "");
     expect_part(&rt, rt.alloc(), &script, Part::Routine(RoutineId(1)), SERVE);
     expect_part(&rt, rt.alloc(), &script, Part::Routine(RoutineId(4)), "");
+}
+
+// What parts make that ask before they act.
+const ASKING: &str = "event stop manual clear
+mutex door
+work job serve
+wait halt serve
+io file serve
+routine serve
+  if door on-return door
+  unless stop complete-next file 995 0
+done
+client
+  times 3 unless stop submit job
+  try-acquire door
+done
+client
+  times 2 if door acquire stop
+  if door set-wait halt none none
+  unless door acquire stop
+  complete-next file 0 512
+done
+";
+
+const SERVES_ASKED: &str = "w1 try-acquire 2 -> flag yes
+w1 on-return mutex 2 1 -> ok
+w1 try-acquire 1 -> refused not-running";
+
+const UNTIL_TOLD: &str = "c2 try-acquire 1 -> flag no
+c2 submit 1 -> queued 1 1
+c2 try-acquire 1 -> flag yes
+c2 try-acquire 1 -> flag no
+c2 submit 1 -> refused released
+c2 try-acquire 2 -> flag no";
+
+const ASKED_EACH_TIME: &str = "c3 try-acquire 2 -> flag yes
+c3 acquire 1 -> ok
+c3 end -> ended
+c3 try-acquire 2 -> flag no
+c3 try-acquire 2 -> flag yes
+c3 set-wait 2 none none -> queued 0 0
+c3 try-acquire 2 -> flag no
+c3 acquire 1 -> refused no-such
+c3 complete-next 3 0 512 -> refused no-operation";
+
+#[test]
+fn parts_ask_before_they_act(rt: HostRuntime) {
+    let script = expect_ok(&rt, parse_script(rt.alloc(), ASKING.as_bytes()));
+    expect_part(&rt, rt.alloc(), &script, Part::Client(2), UNTIL_TOLD);
+    expect_part(&rt, rt.alloc(), &script, Part::Client(3), ASKED_EACH_TIME);
+    expect_part(
+        &rt,
+        rt.alloc(),
+        &script,
+        Part::Routine(RoutineId(1)),
+        SERVES_ASKED,
+    );
 }
 
 // Behind the answers of these entries the part makes their calls, and no further one.

@@ -3,7 +3,8 @@
 //! Each method is `try_call` with the call of that function, and promises what that does: the answer,
 //! a look, Full, or Busy where another seat has the turn. The kind of an object or of an action is
 //! told by the method's name. A function that waits is two calls, one that begins the wait and `End`;
-//! `wait_callbacks`, `close_members` and `acquire` make both.
+//! `wait_callbacks`, `close_members` and `acquire` make both. `complete_next` alone is no function's: it
+//! is what a device does.
 //!
 //! The numbers of pools, groups, objects, kernel objects and cancel routines are at most 65,535, those
 //! of the routines that are called are 1 to 65,535, and an environment without a group has no cancel
@@ -17,8 +18,8 @@
 
 ghost use Rattle.tp_base.specs.declared.answers.ActionKind.TheVariants.{Event, Mutex, Section, Semaphore};
 ghost use Rattle.tp_base.specs.declared.calls.Call.TheVariants.{CloseGroup, CloseObject, ClosePool, Create, CreateGroup, CreatePool, SetMaximum, SetMinimum, SubmitSimple, SubmitWork};
-ghost use Rattle.tp_base.specs.declared.calls.Call.TheVariants.{CancelIo, IsTimerSet, SetTimer, SetTimerEx, SetWait, StartIo};
-ghost use Rattle.tp_base.specs.declared.calls.Call.TheVariants.{Disassociate, MayRunLong, OnReturn, ReleaseLock, ReleaseSemaphore, ResetEvent, SetEvent};
+ghost use Rattle.tp_base.specs.declared.calls.Call.TheVariants.{CancelIo, CompleteNext, IsTimerSet, SetTimer, SetTimerEx, SetWait, StartIo};
+ghost use Rattle.tp_base.specs.declared.calls.Call.TheVariants.{Disassociate, MayRunLong, OnReturn, ReleaseLock, ReleaseSemaphore, ResetEvent, SetEvent, TryAcquire};
 ghost use Rattle.tp_base.specs.declared.calls.Kind.TheVariants.{Io, Timer, Wait, Work};
 ghost use Rattle.shared_pool.specs.Tries.{IsTry, MayTry};
 
@@ -28,6 +29,9 @@ use tp_base::answers::ActionKind;
 use tp_base::calls::{Call, Environ, Kind, Lock};
 use tp_base::ids::{GroupId, KernelId, ObjectId, PoolId, RoutineId};
 use turn_lock::Seat;
+
+// What an operation that is cancelled under way completes with: ERROR_OPERATION_ABORTED.
+const OPERATION_ABORTED: u32 = 995;
 
 impl<B: Recorded> SharedPool<B> {
     /// Makes a pool: `CreateThreadpool`. `Made` has its number, the first of which is 1.
@@ -419,6 +423,42 @@ impl<B: Recorded> SharedPool<B> {
         self.try_call(seat, Call::CancelIo { object })
     }
 
+    /// Completes the first operation of an I/O object that is under way, as its device does next. `Queued`
+    /// has its callback, which is pending then and is told `error`, 0 or the code of what went wrong, and
+    /// how many `bytes` were read or written.
+    ///
+    /// Refused too: `WrongKind`; `NoOperation`, none is under way. That the object is released is no reason.
+    pub fn complete_next(
+        &self,
+        seat: &mut Seat<B>,
+        object: ObjectId,
+        error: u32,
+        bytes: u64,
+    ) -> Tried
+        requires { MayTry self.now seat.old (CompleteNext object error bytes) }
+        ensures { IsTry self.now (CompleteNext object error bytes) result seat.old seat.new }
+    {
+        self.try_call(
+            seat,
+            Call::CompleteNext {
+                object,
+                error,
+                bytes,
+            },
+        )
+    }
+
+    /// Cancels the first operation of an I/O object that is under way: `CancelIoEx`, one operation at a
+    /// time. `Queued` has its callback, which is pending then and is told the error 995 and no bytes.
+    ///
+    /// Who cancels all makes it until it is refused. Refused where `complete_next` is.
+    pub fn cancel_io_ex(&self, seat: &mut Seat<B>, object: ObjectId) -> Tried
+        requires { MayTry self.now seat.old (CompleteNext object 995 0) }
+        ensures { IsTry self.now (CompleteNext object 995 0) result seat.old seat.new }
+    {
+        self.complete_next(seat, object, OPERATION_ABORTED, 0)
+    }
+
     /// Says that the callback which the worker runs may run long: `CallbackMayRunLong`. `Flag` says
     /// whether the pool has another worker for its callbacks.
     ///
@@ -568,5 +608,17 @@ impl<B: Recorded> SharedPool<B> {
         ensures { IsTry self.now (ReleaseLock lock kernel) result seat.old seat.new }
     {
         self.try_call(seat, Call::ReleaseLock { lock, kernel })
+    }
+
+    /// Takes a kernel object where the actor may take it now, and begins no wait: `WaitForSingleObject`
+    /// with a time of 0, and for a section `TryEnterCriticalSection`. `Flag` says whether it is taken: an
+    /// event or a semaphore that is signalled, or a lock that is free or the actor's own.
+    ///
+    /// It is refused for no other reason than the four.
+    pub fn try_acquire(&self, seat: &mut Seat<B>, kernel: KernelId) -> Tried
+        requires { MayTry self.now seat.old (TryAcquire kernel) }
+        ensures { IsTry self.now (TryAcquire kernel) result seat.old seat.new }
+    {
+        self.try_call(seat, Call::TryAcquire { kernel })
     }
 }
