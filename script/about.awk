@@ -3,9 +3,9 @@
 # with each call and its answer, in their order. What has a name in `known_as` is told by that.
 
 BEGIN {
-    put(object_at, 3, "submit set-timer set-timer-ex is-timer-set set-wait start-io issue-io cancel-io")
+    put(object_at, 3, "submit set-timer set-timer-ex is-timer-set set-wait start-io issue-io cancel-io complete-next")
     put(object_at, 4, "wait close")
-    put(kernel_at, 3, "set-event reset-event release-semaphore acquire")
+    put(kernel_at, 3, "set-event reset-event release-semaphore acquire try-acquire")
     put(kernel_at, 4, "release-lock on-return set-wait")
     put(pool_at, 3, "set-maximum set-minimum close-pool")
     put(group_at, 3, "close-members close-group")
@@ -68,7 +68,7 @@ function for_whom(home,    number) {
 
 function of_refusal(name) {
     if (name == "no-such") return never_made()
-    if (name == "released") return both(actor in finished ? "client " substr(actor, 2) : "", object in gone ? called("object", object) : "")
+    if (name == "released") return both(actor in finished ? "client " substr(actor, 2) : "", object in gone && call != "complete-next" ? called("object", object) : "")
     if (name == "wrong-kind") return other_kind()
     if (name == "not-waitable") return other_kind_of_kernel()
     if (name == "not-owner") return owner_of(kernel)
@@ -105,7 +105,7 @@ function named(kind) {
 }
 
 function owner_of(lock) {
-    if (kernel_kind[lock] !~ /^(mutex|section)$/) return ""
+    if (!is_lock(lock)) return ""
     return lock in owner ? owner[lock] " owns it" : "it is free"
 }
 
@@ -143,6 +143,7 @@ function learn() {
     else if ($1 == "taken") learn_taken($2)
     else if (call == "on-return") action[actor, word[3]] = kernel
     else if (call == "release-lock") give_back(kernel)
+    else if (call == "try-acquire") { if ($2 == "yes" && is_lock(kernel)) take_lock(kernel) }
     else if ($1 == "returned") learn_returned(runs[actor])
     else learn_wait()
 }
@@ -158,7 +159,7 @@ function learn_made(number) {
 # The callbacks that a call makes of its own object, or of none. Those that the clock or a signal makes are
 # known when they are taken.
 function learn_queued(first, many,    number) {
-    if (call == "complete-io") { delete operation[first]; reserve(first) }
+    if (call ~ /^complete-(io|next)$/) { delete operation[first]; reserve(first) }
     if (call !~ /^(submit|submit-simple|set-timer|set-timer-ex|set-wait)$/) return
     for (number = first; number < first + many; number++) object_of[number] = object
     for (number = first; number < first + many; number++) reserve(number)
@@ -207,11 +208,15 @@ function learn_wait(    number) {
     }
     else if ($1 == "notice") given[actor]++
     else if (call == "end") {
-        if ($1 == "ended" && actor in takes && kernel_kind[takes[actor]] ~ /^(mutex|section)$/) take_lock(takes[actor])
+        if ($1 == "ended" && actor in takes && is_lock(takes[actor])) take_lock(takes[actor])
         delete waits_for[actor]
         delete takes[actor]
         delete notices[actor]
     }
+}
+
+function is_lock(number) {
+    return kernel_kind[number] ~ /^(mutex|section)$/
 }
 
 function take_lock(lock) {

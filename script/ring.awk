@@ -8,7 +8,7 @@ function follow() {
     if (call == "create") pool_made_in[$2] = pool
     else if (call == "submit-simple") { pool_of_simple[$2] = pool; group_of_simple[$2] = group }
     else if (call == "disassociate") left_alone[runs[actor]]
-    else if (call == "complete-io") pending[$2]
+    else if (call ~ /^complete-(io|next)$/) pending[$2]
     else if ($1 == "taken") delete pending[$2]
     else if ($1 == "begun" || $1 == "closing") follow_wait()
     if ($1 == "stalled" || $1 == "ended" || $1 == "exhausted") delete covers[actor]

@@ -3,9 +3,9 @@
 
 BEGIN {
     declarations = "pool group event semaphore mutex section work timer wait io"
-    operations = "simple submit set-timer set-timer-ex is-timer-set set-wait start-io cancel-io issue-io complete-io let close wait close-members " \
-        "close-group close-pool set-maximum set-minimum set-event reset-event release-semaphore release acquire advance times " \
-        "may-run-long disassociate on-return"
+    operations = "simple submit set-timer set-timer-ex is-timer-set set-wait start-io cancel-io issue-io complete-io complete-next let close wait close-members " \
+        "close-group close-pool set-maximum set-minimum set-event reset-event release-semaphore release acquire try-acquire advance " \
+        "times if unless may-run-long disassociate on-return"
     with_options = "work timer wait io let simple"
     options = "context in priority long persistent group cancel"
     title["work"] = "work object"
@@ -16,7 +16,7 @@ BEGIN {
     want("work object", "submit")
     want("timer", "set-timer set-timer-ex is-timer-set")
     want("wait object", "set-wait")
-    want("I/O object", "start-io cancel-io issue-io")
+    want("I/O object", "start-io cancel-io issue-io complete-next")
     want("operation", "complete-io")
     want("object", "close wait")
     want("group", "close-members close-group group")
@@ -24,7 +24,7 @@ BEGIN {
     want("event", "set-event reset-event")
     want("semaphore", "release-semaphore")
     want("mutex or section", "release")
-    want("kernel object", "acquire on-return")
+    want("kernel object", "acquire try-acquire on-return if unless")
     want("routine", "simple cancel")
     # what stands at a place that has no name
     put("event 3", "`manual` or `auto`")
@@ -38,8 +38,8 @@ BEGIN {
     put("set-timer 4, set-timer-ex 4", "a period in milliseconds, up to 4294967295,")
     put("set-timer 5, set-timer-ex 5", "a window in milliseconds, up to 4294967295,")
     put("advance 2", "a time in units of 100 ns, up to 9223372036854775807,")
-    put("complete-io 3", "an error, a number up to 4294967295,")
-    put("complete-io 4, close-members 4, context", "a number up to 18446744073709551615")
+    put("complete-io 3, complete-next 3", "an error, a number up to 4294967295,")
+    put("complete-io 4, complete-next 4, close-members 4, context", "a number up to 18446744073709551615")
     put("set-maximum 3, set-minimum 3, max, min", "a number up to 4294967295")
     put("release-semaphore 3, on-return 3", "a number from 1 to 2147483647")
     put("times 2", "a number from 1 to 10000")
@@ -47,9 +47,9 @@ BEGIN {
     # how many words there may be
     most_words(1, "client done may-run-long disassociate")
     most_words(2, "group mutex section routine submit is-timer-set start-io cancel-io close close-group close-pool set-event reset-event release " \
-        "acquire advance")
+        "acquire try-acquire advance")
     most_words(3, "issue-io wait set-maximum set-minimum release-semaphore on-return")
-    most_words(4, "event semaphore set-wait complete-io close-members")
+    most_words(4, "event semaphore set-wait complete-io complete-next close-members")
     most_words(5, "set-timer set-timer-ex")
     most_words(6, "pool")
 }
@@ -106,15 +106,15 @@ function take_name(name, of) {
     what_is[name] = name_of(of)
 }
 
-# The word at the column and its place in the line; behind `times` and its count the place begins anew.
-function take_line(    front) {
+# The word at the column and its place in the line. Behind `times` and its count, and behind a condition, the place begins anew.
+function take_line(    front, at) {
     front = split_words(substr($0, 1, column - 1))
     count = split_words($0)
     place = front + 1
     word = words[place]
     before = words[front]
-    head = words[1]
-    if (head == "times" && place > 2) { place -= 2; head = words[3]; repeated = 1 }
+    for (at = 1; place > 2 && has("times if unless", words[at]); at += 2) { place -= 2; prefix = words[at] }
+    head = words[at]
 }
 
 function name_of(what) {
@@ -157,9 +157,11 @@ function sort_of(name) {
     return name in local ? local[name] : sort[name]
 }
 
-# Why a line doesn't begin so, or nothing is repeated so.
+# Why a line doesn't begin so, or nothing is repeated or asked for so.
 function cause_of_head() {
-    if (repeated && has("let issue-io times", word)) return "`" word "` isn't repeated by `times`"
+    if (prefix == "times" && has("let issue-io times", word)) return "`" word "` isn't repeated by `times`"
+    if (prefix ~ /^(if|unless)$/ && word == "times") return "`times` and its count stand in front of `" prefix "`"
+    if (prefix ~ /^(if|unless)$/ && has("let issue-io if unless", word)) return "`" word "` doesn't stand behind `" prefix "`"
     if (has("may-run-long disassociate on-return", word) && section == "client") return "`" word "` stands in routines alone"
     if (word == "routine" || word == "client" || has(declarations, word) && !has(operations, word)) {
         if (section != "") return "the `done` of the " section " in line " begin " is missing"
@@ -168,7 +170,7 @@ function cause_of_head() {
     }
     if (word == "done") return "no routine and no client is open here"
     if (has(operations, word)) return "an operation stands in a routine or a client, in front of its `done`"
-    if (repeated) return nearest(operations, "an operation stands here")
+    if (prefix) return nearest(operations, "an operation stands here")
     if (section != "") return nearest(operations " done", "an operation or `done` begins a line here")
     return nearest(declarations " routine client", "a declaration, `routine` or `client` begins a line here")
 }

@@ -13,6 +13,8 @@ function tell_script(    number, told) {
     split("", made)
     section = ""
     begun = clients = locals = 0
+    # behind the last line feed there is no line
+    if (text[count] == "") count--
     find_routines()
     for (number = 1; number <= count && told == ""; number++) {
         told = fault_of(text[number])

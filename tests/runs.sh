@@ -332,6 +332,12 @@ try 'an empty script is told' 0 '~3 runs, of the seeds 1 to 3: *' $'tpool: the s
 refusals() { "$tpool" runs "$@" --json 2>/dev/null | sed 's/.*"things"://' | awk '{ print (/"came":"refused released"/ ? "some" : "none") }'; }
 try 'a timer that is left set is found' 0 $'some\n' '' refusals "$here/examples/timer-left-set.script" 100
 try 'one that is unset has nothing to be found' 0 $'none\n' '' refusals "$here/examples/timer-unset.script" 1000
+try 'who is told behind the wait for those who ask submits too late' 0 $'some\n' '' refusals "$here/examples/guide-told-late.script" 100
+try 'who is told before it does not' 0 $'none\n' '' refusals "$here/examples/guide-told-first.script" 1000
+# What came of the runs of a script.
+things_of() { "$tpool" runs "$@" --json 2>/dev/null | sed 's/.*"things":\[//' | grep -o '"came":"[^"]*"'; }
+try 'a read that comes under way behind the cancel is never over' 0 $'"came":"stalled"\n"came":"left issued"\n' '' things_of "$here/examples/pipe-told-late.script" 100
+try 'a cancel behind all reads leaves none' 1 '' '' things_of "$here/examples/pipe-told-first.script" 1000
 try 'one line of the table is read' 0 '~3 runs, *' '' first_line "$tpool" runs "$server" 3
 in_a_while() { timeout --preserve-status -s INT 3 "$tpool" runs "$server" 1000000; }
 try 'how long it takes is said, and what came until an interrupt' 130 '~[1-9]* of 1000000 runs, of the seeds up to 1000000: *' '~tpool: 1000000 runs take about [1-9]*' in_a_while

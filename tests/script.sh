@@ -55,7 +55,7 @@ try 'help fits 80 columns' 0 '' '' too_wide
 
 # --- Calls
 lists() { "$tpool" calls | awk '/^  / { lines++; words[$1] } END { for (word in words) calls++; print lines, calls }'; }
-try 'the calls' 0 $'59 50\n' '' lists
+try 'the calls' 0 $'61 52\n' '' lists
 try 'a call by its word' 0 $'~### `submit`: SubmitThreadpoolWork\n*' '' "$tpool" calls submit
 for name in SubmitThreadpoolWork submitthreadpoolwork; do
     try "a call by its function, $name" 0 "$("$tpool" calls submit)"$'\n' '' "$tpool" calls "$name"
@@ -63,6 +63,10 @@ done
 try 'a call of two words' 0 $'~### `create timer`: CreateThreadpoolTimer\n*' '' "$tpool" calls create timer
 of_one_word() { "$tpool" calls create | sed -n 's/^### //p'; }
 try 'calls of one first word' 0 $'~`create work`: *`create timer`: *`create wait`: *`create io`: *' '' of_one_word
+# shellcheck disable=SC2016
+calls_of() { "$tpool" calls "$1" | sed -n 's/^### `\([a-z -]*\)`: .*/\1/p'; }
+try 'both calls of a function' 0 $'acquire\ntry-acquire\n' '' calls_of WaitForSingleObject
+try 'both calls of another' 0 $'complete-io\ncomplete-next\n' '' calls_of CancelIoEx
 try 'the second of two functions' 0 $'~### `create-lock`: *' '' "$tpool" calls InitializeCriticalSection
 try 'a function by the name of its wide characters' 0 "$("$tpool" calls CreateEvent)"$'\n' '' "$tpool" calls CreateEventW
 # What is no call: `first_words NAME` are those that are said of it.

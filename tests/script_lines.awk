@@ -1,6 +1,7 @@
 # The lines of scripts, from the file script_lines, which is read first: where a line may stand, and its
 # words. Brackets hold what may be left out. A word of capitals is a choice, a number, or a name:
-# `choices`, `most` and `sorts` have what may stand for it. Operations may be repeated by `times`.
+# `choices`, `most` and `sorts` have what may stand for it. Operations may be repeated by `times`,
+# and stand behind a condition.
 
 BEGIN {
     options = "[ context LARGE ] [ in POOL ] [ priority PRIORITY ] [ long ] [ persistent ] [ group GROUP [ cancel ROUTINE ] ]"
@@ -33,8 +34,17 @@ FILENAME == ARGV[1] {
     sub(/OPTIONS/, options)
     words = substr($0, length($1) + 2)
     add_line($1, words)
-    if ($1 == "operation" || $1 == "own") add_line($1, "times COUNT " words)
+    if ($1 == "operation" || $1 == "own") add_operation($1, words)
     next
+}
+
+# An operation may be repeated, and may have a condition.
+function add_operation(where, words) {
+    add_line(where, "times COUNT " words)
+    add_line(where, "if KERNEL " words)
+    add_line(where, "unless KERNEL " words)
+    add_line(where, "times COUNT if KERNEL " words)
+    add_line(where, "times COUNT unless KERNEL " words)
 }
 
 function add_line(where, words,    fields, count, at) {
