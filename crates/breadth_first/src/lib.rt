@@ -1,0 +1,104 @@
+//! A search of a system of states, breadth first.
+
+#![tactic(auto)]
+
+ghost use Rattle.std.specs.Prelude.{◌≡◌, ◌<◌, ◌≤◌, ℕ, IfOk};
+ghost use Rattle.breadth_first.specs.Answers.{Answers, GivesUpFor};
+ghost use Rattle.breadth_first.specs.Rules.{Keeps, Rules};
+
+mod searching;
+
+use searching::{begin, expand};
+use std::alloc::{AllocError, Global};
+
+/// What comes of a move.
+#[derive(Drop)]
+pub enum Next<S> {
+    /// It can't be made.
+    Nowhere,
+    /// It shows what is looked for.
+    Bad,
+    /// It leads to a state.
+    To(S),
+}
+
+/// States, and the moves from each to others.
+pub trait System {
+    type State: Drop;
+
+    ghost rules: { Self → Rules Self.State };
+
+    // What comes of the first state comes of the second, up to what is like.
+    ghost like: { Self → Self.State → Self.State → Type 0 };
+
+    /// How many moves there are. Some of them may lead nowhere, in some states or in all.
+    fn width(&self) -> u32
+        ensures { result ≡ (rules self.now).width };
+
+    /// The state in which all begins.
+    fn first(&self, alloc: Global) -> Result<Self::State, AllocError>
+        ensures { IfOk result (λ first. first ≡ (rules self.now).first) };
+
+    /// What comes of a move of a state.
+    fn after(
+        &self,
+        alloc: Global,
+        state: &Self::State,
+        by: u32,
+    ) -> Result<Next<Self::State>, AllocError>
+        requires { by < (rules self.now).width }
+        ensures { IfOk result (λ next. next ≡ (rules self.now).after state.now by) };
+
+    /// The key of a state. Of states with one key only the first that is met is gone on with.
+    fn key(&self, alloc: Global, state: &Self::State) -> Result<Vec<u8>, AllocError>
+        ensures { IfOk result (λ key. key.items ≡ (rules self.now).key state.now) };
+
+    ghost like_itself: { (a : Self) (s : Self.State) → like a s s };
+
+    // What is like a state is like each that has its key.
+    ghost like_kept: { (a : Self) (s t u : Self.State) → like a s t → (rules a).key t ≡ (rules a).key u → like a s u };
+
+    // Of states that are like, the second has a move for each of the first.
+    ghost keeps: { (a : Self) (s t : Self.State) (by : ℕ) → like a s t → Keeps (rules a) (like a) s t by };
+}
+
+/// What a search found.
+#[derive(Drop)]
+pub enum Answer {
+    /// These moves come to what is looked for, and no fewer do.
+    Bad(Vec<u32>),
+    /// No moves come to what is looked for. So many states were met.
+    None { states: u32 },
+    /// No moves come to what is looked for that are at most `deep`. So many states were met.
+    GaveUp { states: u32, deep: u32 },
+}
+
+/// Looks for moves that come to what is looked for.
+pub fn search<S: System>(
+    alloc: Global,
+    system: &S,
+    most: u32,
+    deepest: u32,
+) -> Result<Answer, AllocError>
+    requires { 1 ≤ most }
+    ensures answers { IfOk result (Answers (S.rules system.now)) }
+    ensures gives_up { IfOk result (GivesUpFor (S.rules system.now) most deepest) }
+{
+    let mut search = begin(alloc, system, most)?;
+    for at in 0..most {
+        let depth = search.depth(at);
+        let Some(state) = search.waiting.pop_front() else {
+            return Ok(Answer::None { states: at });
+        };
+        if depth >= deepest {
+            return Ok(Answer::GaveUp {
+                states: search.len(),
+                deep: deepest,
+            });
+        }
+        if let Some(answer) = expand(alloc, system, &mut search, &state, at, depth)? {
+            return Ok(answer);
+        }
+    }
+    Ok(Answer::None { states: most })
+}
