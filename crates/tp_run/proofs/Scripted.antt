@@ -38,7 +38,7 @@ use Rattle.tp_script.specs.Machines.{NeverWaitsAtFirst}
 use Rattle.tp_script.specs.Nexts.{first_progress, next_call}
 use Rattle.tp_script.specs.declared.routines.Part.TheVariants as part
 use Rattle.worker_gate.specs.Drawn.{IsDrawn}
-use Rattle.worker_gate.specs.Places.{Given}
+use Rattle.part_places.specs.Places.{Given}
 use Rattle.worker_gate.specs.Rounds.{begins_wait, NeverWaits}
 use Rattle.worker_gate.specs.Runs.{IsCutShort, Runs}
 

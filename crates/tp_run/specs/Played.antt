@@ -26,7 +26,7 @@ use Rattle.script_lines.specs.declared.line.Line.{Line}
 use Rattle.tp_script.specs.Nexts.{clients_of, next_at, progress_after}
 use Rattle.worker_gate.specs.Alone.{IsAlone}
 use Rattle.worker_gate.specs.Drawn.{IsDrawn}
-use Rattle.worker_gate.specs.Places.{given, Given}
+use Rattle.part_places.specs.Places.{given, Given}
 use Rattle.worker_gate.specs.Runs.{IsCutShort, Runs}
 
 -- ---- a script and its machine

@@ -28,7 +28,7 @@ use Rattle.shared_pool.specs.Calls.{HasCalled, HasEnded, HasLookedFor, HasTried}
 use Rattle.shared_pool.specs.Calls.{comes_to as seat_comes_to}
 use Rattle.shared_pool.specs.Pools.{IsPlayer}
 use Rattle.worker_gate.specs.declared.role.Role.{Role}
-use Rattle.worker_gate.specs.Places.{Given, next_call, opening}
+use Rattle.part_places.specs.Places.{Given, next_call, opening}
 use Rattle.worker_gate.specs.Roles.{due_of, took, IsOf}
 use Rattle.worker_gate.specs.Walks.{comes_to}
 use Rattle.worker_gate.specs.declared.actor.Actor.{Actor}

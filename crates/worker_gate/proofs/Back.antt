@@ -22,7 +22,7 @@ use Rattle.worker_gate.specs.declared.actor.Actor.{Actor}
 use Rattle.worker_gate.specs.declared.role.Role.{Role}
 use Rattle.worker_gate.specs.Acting.{role_in, seat_in, IsReady}
 use Rattle.worker_gate.specs.Closing.{AllBack, BeginsAsMade, FirstTold, IsFirstPlayed}
-use Rattle.worker_gate.specs.Places.{Given}
+use Rattle.part_places.specs.Places.{Given}
 use Rattle.worker_gate.specs.Roles.{IsOf}
 use Rattle.worker_gate.specs.Rounds.{AllOf, HaveAllRoles}
 use Rattle.worker_gate.specs.Runs.{AreKnown}

@@ -12,12 +12,12 @@ use Rattle.turn_lock.specs.Seats.{mine_of, seen_of}
 use Rattle.turn_lock.proofs.Beginnings.{starts_itself, starts_through}
 use Rattle.shared_pool.specs.declared.pool.SharedPool.{SharedPool}
 use Rattle.worker_gate.specs.declared.actor.Actor.{Actor}
-use Rattle.worker_gate.specs.declared.place.Place.{Place}
+use Rattle.part_places.specs.declared.place.Place.{Place}
 use Rattle.worker_gate.specs.declared.role.Turn.{Turn}
 use Rattle.worker_gate.specs.declared.role.Turn.TheVariants.{Moved, Waiting, Ended}
 use Rattle.worker_gate.specs.Acting.{due_by, has_ended, holds_up, made_by, most_of, GoesOn, HasMet, HasMoved, HasWaited, IsReady, Said}
 use Rattle.worker_gate.specs.Crews.{both, left_of, spare, AllReady, AreCrewsBack, AreHandedBack, GoOn, HasCause, HasPlayedRound, HaveCauses, RoundSaid}
-use Rattle.worker_gate.specs.Places.{Given}
+use Rattle.part_places.specs.Places.{Given}
 use Rattle.worker_gate.specs.Roles.{due_of}
 
 module _ {B : Type 0} where

@@ -26,7 +26,7 @@ use Rattle.worker_gate.specs.Acting.{has_ended, seat_in, GoesOn, IsReady}
 use Rattle.worker_gate.specs.Closing.{AllBack, FirstTold, HasHeard, HasTold, HaveHeard}
 use Rattle.worker_gate.specs.Crews.{AllReady, AreCrewsBack, GoOn, HasCause, HasStopped, HaveCauses}
 use Rattle.worker_gate.specs.Crowds.{number_in, AreNew, IsNewActor, IsNewSeat}
-use Rattle.worker_gate.specs.Places.{Given}
+use Rattle.part_places.specs.Places.{Given}
 use Rattle.worker_gate.specs.Roles.{new_role, IsOf}
 use Rattle.worker_gate.proofs.Acting.{asked_ready}
 use Rattle.worker_gate.proofs.Back.{at_all, is_actor_of, mapped, number_for}

@@ -14,7 +14,7 @@ use Rattle.worker_gate.specs.declared.role.Turn.{Turn}
 use Rattle.worker_gate.specs.declared.role.Turn.TheVariants.{Moved, Waiting, Ended}
 use Rattle.worker_gate.specs.Drawn.{drawn_turn, drawn_turns, index_drawn, open_from, scene_of, with_place, with_turn, Drawing}
 use Rattle.worker_gate.specs.Lively.{count_ended}
-use Rattle.worker_gate.specs.Places.{Given}
+use Rattle.part_places.specs.Places.{Given}
 use Rattle.worker_gate.specs.Roles.{due_of, played_turn, turned, who_of, Turned}
 use Rattle.worker_gate.specs.Rounds.{scene}
 use Rattle.worker_gate.specs.Walks.{comes_to}

@@ -16,7 +16,7 @@ use Rattle.worker_gate.specs.declared.role.Turn.{Turn}
 use Rattle.worker_gate.specs.declared.role.Turn.TheVariants.{Moved, Waiting, Ended}
 use Rattle.worker_gate.specs.Drawn.{drawn_turn, drawn_turns, index_drawn, open_places, or_all, progress, ready_after, scene_of, with_place, with_turn, Drawing, GoOnBy}
 use Rattle.worker_gate.specs.Lively.{count_ended, Ends, GoesOn, Moves}
-use Rattle.worker_gate.specs.Places.{Given}
+use Rattle.part_places.specs.Places.{Given}
 use Rattle.worker_gate.specs.Roles.{turned, IsOf, Turned}
 use Rattle.worker_gate.specs.Rounds.{round_of, scene, Scene}
 use Rattle.worker_gate.proofs.Drawing.{count_more, count_same, open_same, turn_by, turn_said, turns_both, turns_follow, TurnSaid}

@@ -17,7 +17,7 @@ use Rattle.worker_gate.specs.declared.role.Role.{Role}
 use Rattle.worker_gate.specs.declared.role.Turn.{Turn}
 use Rattle.worker_gate.specs.declared.role.Turn.TheVariants.{Moved, Waiting, Ended}
 use Rattle.worker_gate.specs.Drawn.{drawing, drawn_turn, drawn_turns, index_drawn, left_after, open_places, or_all, progress, ready_after, scene_of, with_place, with_turn, AreDrawnFrom, Drawing, HasPassed, IsSound}
-use Rattle.worker_gate.specs.Places.{Given}
+use Rattle.part_places.specs.Places.{Given}
 use Rattle.worker_gate.specs.Roles.{is_last_turn, turned, who_of, IsOf, Turned}
 use Rattle.worker_gate.specs.Rounds.{scene, AllOf, EndedWell, IsSameMachine, Scene}
 use Rattle.worker_gate.proofs.Drawing.{count_more, count_same, open_few, open_same, turn_said, TurnSaid}

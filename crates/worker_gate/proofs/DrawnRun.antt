@@ -18,7 +18,7 @@ use Rattle.turn_lock.specs.Histories.{own}
 use Rattle.worker_gate.specs.declared.role.Role.{Role}
 use Rattle.worker_gate.specs.Alone.{other_roles}
 use Rattle.worker_gate.specs.Drawn.{drawing, drawn_turns, open_places, scene_of, seeded, AreDrawn, AreDrawnFrom, AreDrawnOn, Drawing, HasPassed, IsDrawn, IsSound}
-use Rattle.worker_gate.specs.Places.{Given}
+use Rattle.part_places.specs.Places.{Given}
 use Rattle.worker_gate.specs.Roles.{who_of, IsOf}
 use Rattle.worker_gate.specs.Rounds.{round_of, scene, AllOf, EndedWell, HasRole, HaveEnded, HaveOpenRoles, IsSameMachine, Scene}
 use Rattle.worker_gate.specs.Runs.{is_over_in}

@@ -15,10 +15,10 @@ use Rattle.tp_model.specs.Stages.{is_in_part, IsActor}
 use Rattle.tp_model.proofs.Refusals.{is_own_actor}
 use Rattle.recorded.specs.Recordings.{Recording}
 use Rattle.turn_lock.specs.Histories.{own}
-use Rattle.worker_gate.specs.declared.place.Place.{Place}
+use Rattle.part_places.specs.declared.place.Place.{Place}
 use Rattle.worker_gate.specs.declared.role.Role.{Role}
 use Rattle.worker_gate.specs.Closing.{IsCutIn, IsFirstPlayed}
-use Rattle.worker_gate.specs.Places.{Given, opening, place_after, place_from}
+use Rattle.part_places.specs.Places.{Given, opening, place_after, place_from}
 use Rattle.worker_gate.specs.Roles.{is_stage_of, turned, who_of, IsOf}
 use Rattle.worker_gate.specs.Rounds.{awake, round_of, rounds, scene, AllOf, ArePlayed, HasPlayed, HasRole, HaveAllRoles, HaveEnded, Scene}
 use Rattle.worker_gate.specs.Runs.{is_over_in, AreKnown, ComesFirst, IsCutShort, Runs, Whole}

@@ -22,7 +22,7 @@ use Rattle.recorded.specs.Recordings.{Recording}
 use Rattle.turn_lock.specs.Histories.{own}
 use Rattle.worker_gate.specs.declared.role.Role.{Role}
 use Rattle.worker_gate.specs.Lively.{count_ended, ArePlayedOn, Ends, GoesOn, HadEnded, Moves}
-use Rattle.worker_gate.specs.Places.{Given}
+use Rattle.part_places.specs.Places.{Given}
 use Rattle.worker_gate.specs.Roles.{is_stage_of, turned, who_of, IsOf}
 use Rattle.worker_gate.specs.Rounds.{awake, round_of, rounds, scene, AllOf, ArePlayed, EndedWell, HasRole, HaveEnded, HaveOpenRoles, IsSameMachine, Scene}
 use Rattle.worker_gate.specs.Runs.{is_over_in}

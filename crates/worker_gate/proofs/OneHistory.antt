@@ -7,7 +7,7 @@ use Rattle.tp_base.specs.declared.answers.Entry.{Entry}
 use Rattle.tp_base.specs.declared.limits.Limits.{Limits}
 use Rattle.worker_gate.specs.declared.role.Role.{Role}
 use Rattle.worker_gate.specs.Alone.{other_roles, IsAlone}
-use Rattle.worker_gate.specs.Places.{Given}
+use Rattle.part_places.specs.Places.{Given}
 use Rattle.worker_gate.specs.Roles.{ended_turn, turned, Turned}
 use Rattle.worker_gate.specs.Rounds.{round_of, rounds, scene, ArePlayed, HaveEnded, Scene}
 use Rattle.worker_gate.proofs.Playing.{on_off, or_off, turned_is}

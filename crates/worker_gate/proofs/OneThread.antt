@@ -21,7 +21,7 @@ use Rattle.worker_gate.specs.declared.role.Role.{Role}
 use Rattle.worker_gate.specs.Alone.{all_roles, new_roles, other_roles, IsAlone}
 use Rattle.worker_gate.specs.Closing.{IsFirstPlayed}
 use Rattle.worker_gate.specs.Drawn.{AreDrawn, IsDrawn}
-use Rattle.worker_gate.specs.Places.{Given}
+use Rattle.part_places.specs.Places.{Given}
 use Rattle.worker_gate.specs.Roles.{ended_turn, ends_at, new_role, turned, who_of, IsOf, Turned}
 use Rattle.worker_gate.specs.Rounds.{awake, round_of, rounds, scene, AllOf, ArePlayed, EndedWell, HasPlayed, HaveAllRoles, HaveEnded, IsSameMachine, NeverWaits, PlaysAlone, Scene}
 use Rattle.worker_gate.specs.Runs.{is_over_in, AreKnown}

@@ -6,7 +6,7 @@ use Rattle.tp_base.specs.declared.answers.Entry.{Entry}
 use Rattle.tp_base.specs.declared.limits.Limits.{Limits}
 use Rattle.worker_gate.specs.declared.role.Role.{Role}
 use Rattle.worker_gate.specs.Drawn.{open_from}
-use Rattle.worker_gate.specs.Places.{Given}
+use Rattle.part_places.specs.Places.{Given}
 use Rattle.worker_gate.specs.Roles.{turned, Turned}
 use Rattle.worker_gate.specs.Rounds.{round_of, scene, Scene}
 use Rattle.worker_gate.proofs.OneHistory.{ended_still}

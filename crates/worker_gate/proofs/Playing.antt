@@ -27,10 +27,10 @@ use Rattle.tp_model.proofs.Facts.{machine_facts}
 use Rattle.recorded.specs.Recordings.{entries_told, room_of, Recording}
 use Rattle.turn_lock.specs.Histories.{own, StartsWith}
 use Rattle.turn_lock.proofs.Beginnings.{own_other}
-use Rattle.worker_gate.specs.declared.place.Place.{Place}
+use Rattle.part_places.specs.declared.place.Place.{Place}
 use Rattle.worker_gate.specs.declared.role.Role.{Role}
 use Rattle.worker_gate.specs.declared.role.Turn.{Turn}
-use Rattle.worker_gate.specs.Places.{Given, opening}
+use Rattle.part_places.specs.Places.{Given, opening}
 use Rattle.worker_gate.specs.Roles.{due_of, ended_turn, ends, ends_at, is_last_turn, is_open, is_stage_of, played_turn, took, turn_by, turned, who_of, IsOf, Turned}
 use Rattle.worker_gate.specs.Rounds.{awake, round_of, scene, AllOf, EndedWell, HaveEnded, IsSameMachine, Scene}
 use Rattle.worker_gate.specs.Runs.{is_over_in}

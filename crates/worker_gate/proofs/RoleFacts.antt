@@ -8,9 +8,9 @@ use Rattle.tp_base.specs.declared.ids.Who.TheVariants.{Client, Worker}
 use Rattle.tp_base.specs.declared.limits.Limits.{Limits}
 use Rattle.tp_model.specs.Stages.{first_stage, IsActor}
 use Rattle.turn_lock.specs.Histories.{own}
-use Rattle.worker_gate.specs.declared.place.Place.{Place}
+use Rattle.part_places.specs.declared.place.Place.{Place}
 use Rattle.worker_gate.specs.declared.role.Role.{Role}
-use Rattle.worker_gate.specs.Places.{Given, opening, place_from}
+use Rattle.part_places.specs.Places.{Given, opening, place_from}
 use Rattle.worker_gate.specs.Roles.{is_stage_of, new_role, IsOf}
 use Rattle.worker_gate.specs.Runs.{IsCutShort}
 

@@ -22,10 +22,10 @@ use Rattle.tp_script.specs.declared.routines.Progress.{Progress}
 use Rattle.tp_script.specs.Nexts.{first_progress}
 use Rattle.recorded.specs.Recordings.{entries_told, room_of, Recording}
 use Rattle.turn_lock.specs.Histories.{own}
-use Rattle.worker_gate.specs.declared.place.Place.{Place}
+use Rattle.part_places.specs.declared.place.Place.{Place}
 use Rattle.worker_gate.specs.declared.role.Role.{Role}
 use Rattle.worker_gate.specs.declared.role.Turn.{Turn}
-use Rattle.worker_gate.specs.Places.{is_last, is_taken, opening, Given}
+use Rattle.part_places.specs.Places.{is_last, is_taken, opening, Given}
 use Rattle.worker_gate.specs.Roles.{due_of, due_or, is_last_turn, is_of_client, is_stage_of, took, turned, IsOf, Turned}
 use Rattle.worker_gate.specs.Rounds.{begins_wait, scene, ArePlayed, IsSameMachine, NeverWaits, PlaysAlone}
 use Rattle.worker_gate.specs.Runs.{is_over_in}

@@ -26,9 +26,9 @@ use Rattle.tp_model.specs.World.{World}
 use Rattle.tp_model.proofs.Entries.{next_number_in}
 use Rattle.tp_script.specs.declared.routines.Progress.{Progress}
 use Rattle.recorded.specs.Recordings.{entries_told, room_of}
-use Rattle.worker_gate.specs.declared.place.Place.{Place}
+use Rattle.part_places.specs.declared.place.Place.{Place}
 use Rattle.worker_gate.specs.declared.role.Role.{Role}
-use Rattle.worker_gate.specs.Places.{next_call, Given}
+use Rattle.part_places.specs.Places.{next_call, Given}
 use Rattle.worker_gate.specs.Roles.{due_of, due_or, ended_turn, ends, is_idle_take, is_stage_of, played_turn, took, turned, Turned}
 use Rattle.worker_gate.specs.Walks.{comes_to, is_full}
 use Rattle.worker_gate.proofs.Going.{idle_at, is_done, leaves_unfilled}

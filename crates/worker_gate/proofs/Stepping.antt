@@ -21,8 +21,8 @@ use Rattle.tp_script.specs.declared.routines.Progress.{Progress}
 use Rattle.recorded.specs.Recordings.{room_of}
 use Rattle.turn_lock.specs.Histories.{own}
 use Rattle.turn_lock.proofs.Beginnings.{starts_itself}
-use Rattle.worker_gate.specs.declared.place.Place.{Place}
-use Rattle.worker_gate.specs.Places.{is_last, next_call, Given}
+use Rattle.part_places.specs.declared.place.Place.{Place}
+use Rattle.part_places.specs.Places.{is_last, next_call, Given}
 use Rattle.worker_gate.specs.Roles.{due_of, due_or, is_idle_take, is_stage_of}
 use Rattle.worker_gate.specs.Walks.{comes_to, is_full, Closes, FollowsAt, IsCut}
 

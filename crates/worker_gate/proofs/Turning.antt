@@ -19,10 +19,10 @@ use Rattle.tp_script.specs.Calls.{IsOfPart}
 use Rattle.recorded.specs.Recordings.{entries_told, outcome_behind, recorded, Recording}
 use Rattle.turn_lock.specs.Histories.{own, StartsWith}
 use Rattle.turn_lock.proofs.Beginnings.{own_more}
-use Rattle.worker_gate.specs.declared.place.Place.{Place}
+use Rattle.part_places.specs.declared.place.Place.{Place}
 use Rattle.worker_gate.specs.declared.role.Role.{Role}
 use Rattle.worker_gate.specs.declared.role.Turn.{Turn}
-use Rattle.worker_gate.specs.Places.{Given, next_call, opening, place_after}
+use Rattle.part_places.specs.Places.{Given, next_call, opening, place_after}
 use Rattle.worker_gate.specs.Roles.{due_of, ended_turn, ends, ends_at, is_idle_take, played_turn, took, turn_by, turned, HasTurned, IsOf, Turned}
 use Rattle.worker_gate.specs.Runs.{is_over_in}
 use Rattle.worker_gate.specs.Walks.{comes_to, is_full, FollowsAt, IsCut}

@@ -12,10 +12,10 @@ use Rattle.tp_model.specs.Stages.{stage_of, waits_of, IsActor, MachineFacts}
 use Rattle.tp_model.proofs.Facts.{machine_facts}
 use Rattle.recorded.specs.Recordings.{room_of}
 use Rattle.turn_lock.specs.Histories.{own}
-use Rattle.worker_gate.specs.declared.place.Place.{Place}
+use Rattle.part_places.specs.declared.place.Place.{Place}
 use Rattle.worker_gate.specs.declared.role.Role.{Role}
 use Rattle.worker_gate.specs.Lively.{count_ended, Ends, GoesOn, HadEnded, Moves}
-use Rattle.worker_gate.specs.Places.{opening, Given}
+use Rattle.part_places.specs.Places.{opening, Given}
 use Rattle.worker_gate.specs.Roles.{ends, turned, who_of, IsOf, Turned}
 use Rattle.worker_gate.specs.Rounds.{round_of, scene, AllOf, EndedWell, HasRole, HaveEnded, HaveOpenRoles, Scene}
 use Rattle.worker_gate.specs.Runs.{is_over_in}

@@ -10,7 +10,7 @@ use Rattle.tp_model.proofs.Facts.{machine_facts}
 use Rattle.recorded.specs.Recordings.{Recording}
 use Rattle.turn_lock.specs.Histories.{own}
 use Rattle.worker_gate.specs.declared.role.Role.{Role}
-use Rattle.worker_gate.specs.Places.{Given}
+use Rattle.part_places.specs.Places.{Given}
 use Rattle.worker_gate.specs.Roles.{is_open, IsOf}
 use Rattle.worker_gate.specs.Runs.{is_over_in}
 use Rattle.worker_gate.proofs.Playing.{over_open, RoundSoFar}

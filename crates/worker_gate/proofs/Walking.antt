@@ -12,8 +12,8 @@ use Rattle.tp_base.specs.Actors.{is_same_actor}
 use Rattle.tp_model.specs.Stages.{stage_from, waits_from}
 use Rattle.turn_lock.specs.Histories.{own, StartsWith}
 use Rattle.turn_lock.proofs.Beginnings.{starts_through}
-use Rattle.worker_gate.specs.declared.place.Place.{Place}
-use Rattle.worker_gate.specs.Places.{Given, place_after, place_from}
+use Rattle.part_places.specs.declared.place.Place.{Place}
+use Rattle.part_places.specs.Places.{Given, place_after, place_from}
 use Rattle.worker_gate.specs.Walks.{Closes, CutAt, FollowsAt, IsCut, Leads}
 
 pub own_append : (who : Who) (history more : List Entry) → own who (history ++ more) ≡ own who history ++ own who more

@@ -6,7 +6,7 @@ use Rattle.tp_base.specs.declared.ids.Who.TheVariants.{Client}
 use Rattle.tp_base.specs.declared.limits.Limits.{Limits}
 use Rattle.turn_lock.specs.Histories.{actor_of}
 use Rattle.worker_gate.specs.declared.role.Role.{Role}
-use Rattle.worker_gate.specs.Places.{Given}
+use Rattle.part_places.specs.Places.{Given}
 use Rattle.worker_gate.specs.Roles.{new_role}
 use Rattle.worker_gate.specs.Rounds.{scene, ArePlayed, HaveEnded}
 

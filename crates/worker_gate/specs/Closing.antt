@@ -12,7 +12,7 @@ use Rattle.shared_pool.specs.Pools.{pool_setup, setup_at, HaveAll}
 use Rattle.worker_gate.specs.declared.actor.Actor.{Actor}
 use Rattle.worker_gate.specs.declared.role.Role.{Role}
 use Rattle.worker_gate.specs.Acting.{role_in, seat_in, GoesOn, IsReady}
-use Rattle.worker_gate.specs.Places.{Given}
+use Rattle.part_places.specs.Places.{Given}
 use Rattle.worker_gate.specs.Rounds.{HaveAllRoles}
 
 module _ {B : Type 0} where

@@ -12,7 +12,7 @@ use Rattle.worker_gate.specs.declared.role.Turn.{Turn}
 use Rattle.worker_gate.specs.declared.role.Turn.TheVariants.{Moved, Waiting, Ended}
 use Rattle.worker_gate.specs.Alone.{other_roles}
 use Rattle.worker_gate.specs.Lively.{count_ended, GoesOn}
-use Rattle.worker_gate.specs.Places.{Given}
+use Rattle.part_places.specs.Places.{Given}
 use Rattle.worker_gate.specs.Roles.{new_role, turned}
 use Rattle.worker_gate.specs.Rounds.{round_of, scene, AllOf, ArePlayed, EndedWell, HaveEnded, Scene}
 

@@ -5,7 +5,6 @@ pub mod Crews
 pub mod Crowds
 pub mod Drawn
 pub mod Lively
-pub mod Places
 pub mod Roles
 pub mod Rounds
 pub mod Runs

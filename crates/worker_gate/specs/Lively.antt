@@ -3,7 +3,7 @@ use Rattle.std.specs.Prelude.{ℕ, suc, ◌+◌, ◌<◌, ◌≤◌, ◌≡◌, 
 use Rattle.std.specs.List.{filter}
 use Rattle.tp_base.specs.declared.limits.Limits.{Limits}
 use Rattle.worker_gate.specs.declared.role.Role.{Role}
-use Rattle.worker_gate.specs.Places.{Given}
+use Rattle.part_places.specs.Places.{Given}
 use Rattle.worker_gate.specs.Rounds.{rounds, HaveEnded, Scene}
 
 -- how many of them have ended

@@ -14,11 +14,11 @@ use Rattle.tp_model.specs.History.{IsLegal}
 use Rattle.tp_model.specs.Stages.{first_stage, is_in_part, stage_from, waits_from, IsActor}
 use Rattle.recorded.specs.Recordings.{entries_told, Recording}
 use Rattle.turn_lock.specs.Histories.{own}
-use Rattle.worker_gate.specs.declared.place.Place.{Place}
+use Rattle.part_places.specs.declared.place.Place.{Place}
 use Rattle.worker_gate.specs.declared.role.Role.{Role}
 use Rattle.worker_gate.specs.declared.role.Turn.{Turn}
 use Rattle.worker_gate.specs.declared.role.Turn.TheVariants.{Moved, Waiting, Ended}
-use Rattle.worker_gate.specs.Places.{Given, next_call, opening, place_after, place_from}
+use Rattle.part_places.specs.Places.{Given, next_call, opening, place_after, place_from}
 use Rattle.worker_gate.specs.Runs.{is_over_in}
 use Rattle.worker_gate.specs.Walks.{comes_to, IsCut, Leads}
 

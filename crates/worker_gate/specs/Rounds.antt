@@ -16,7 +16,7 @@ use Rattle.tp_script.specs.declared.routines.Progress.{Progress}
 use Rattle.recorded.specs.Recordings.{Recording}
 use Rattle.turn_lock.specs.Histories.{own}
 use Rattle.worker_gate.specs.declared.role.Role.{Role}
-use Rattle.worker_gate.specs.Places.{Given}
+use Rattle.part_places.specs.Places.{Given}
 use Rattle.worker_gate.specs.Roles.{turned, IsOf}
 use Rattle.worker_gate.specs.Runs.{is_over_in}
 

@@ -8,7 +8,7 @@ use Rattle.tp_base.specs.Actors.{is_same_actor}
 use Rattle.tp_model.specs.Stages.{is_in_part, IsActor}
 use Rattle.recorded.specs.Recordings.{is_over_behind}
 use Rattle.turn_lock.specs.Histories.{own}
-use Rattle.worker_gate.specs.Places.{Given, opening, place_from}
+use Rattle.part_places.specs.Places.{Given, opening, place_from}
 use Rattle.worker_gate.specs.Walks.{Leads}
 
 -- nothing more is to be done behind a history

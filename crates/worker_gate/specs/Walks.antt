@@ -13,8 +13,8 @@ use Rattle.tp_base.specs.declared.plans.Stage.TheVariants.{Away, Busy, Idle, Ove
 use Rattle.tp_model.specs.Laws.Entries.{attached_by, taken_by, words_by}
 use Rattle.recorded.specs.Recordings.{outcome_behind}
 use Rattle.turn_lock.specs.Histories.{own, StartsWith}
-use Rattle.worker_gate.specs.declared.place.Place.{Place}
-use Rattle.worker_gate.specs.Places.{Given, is_last, next_call, place_after}
+use Rattle.part_places.specs.declared.place.Place.{Place}
+use Rattle.part_places.specs.Places.{Given, is_last, next_call, place_after}
 
 -- what a call comes to behind a history, on a machine of these limits and this capacity
 abbrev pub comes_to : Limits → ℕ → List Entry → Who → Call → Outcome

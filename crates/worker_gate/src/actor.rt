@@ -64,7 +64,7 @@ impl<B> Actor<B> {
 impl<B: Recorded> Actor<B> {
     ghost use Rattle.shared_pool.specs.Pools.{IsPlayer};
     ghost use Rattle.worker_gate.specs.Acting.{role_in, seat_in, GoesOn, HasAskedOver, IsReady, MayPlay, Said};
-    ghost use Rattle.worker_gate.specs.Places.{given};
+    ghost use Rattle.part_places.specs.Places.{given};
 
     /// Plays one turn on the pool, as `Role::turn` does on a machine. It doesn't wait, and makes at
     /// most one call.

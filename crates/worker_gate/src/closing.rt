@@ -4,7 +4,7 @@ ghost use Rattle.std.specs.Prelude.{◌≡◌, ◌≤◌, ◌↔◌, true, map, 
 ghost use Rattle.worker_gate.specs.Acting.{role_in, seat_in};
 ghost use Rattle.worker_gate.specs.Closing.{AllBack, BeginsAsMade, FirstTold, IsCutIn, IsFirstPlayed};
 ghost use Rattle.worker_gate.specs.Drawn.{AreDrawn};
-ghost use Rattle.worker_gate.specs.Places.{given};
+ghost use Rattle.part_places.specs.Places.{given};
 ghost use Rattle.worker_gate.specs.Rounds.{scene, AllOf, EndedWell, HasPlayed, HaveAllRoles, HaveEnded, IsSameMachine};
 ghost use Rattle.worker_gate.specs.Runs.{AreKnown, IsCutShort, Runs};
 ghost use Rattle.tp_model.specs.History.{IsLegal};

@@ -2,7 +2,7 @@
 
 ghost use Rattle.std.specs.Prelude.{◌≡◌, ℕ, IfOk, All, map, vec_items};
 ghost use Rattle.worker_gate.specs.Crews.{both, AllReady, AreCrewsBack, AreHandedBack, HasPlayedRound};
-ghost use Rattle.worker_gate.specs.Places.{given};
+ghost use Rattle.part_places.specs.Places.{given};
 
 use crate::actor::Actor;
 use crate::role::{Gate, Turn};

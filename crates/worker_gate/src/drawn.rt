@@ -4,7 +4,7 @@ ghost use Rattle.std.specs.Prelude.{◌≡◌, ◌≤◌, true, OnOk};
 ghost use Rattle.recorded.specs.Recordings.{is_over_behind};
 ghost use Rattle.tp_model.specs.History.{IsLegal};
 ghost use Rattle.worker_gate.specs.Drawn.{open_places, AreDrawn, AreDrawnFrom, AreDrawnOn, HasPassed};
-ghost use Rattle.worker_gate.specs.Places.{given};
+ghost use Rattle.part_places.specs.Places.{given};
 ghost use Rattle.worker_gate.specs.Rounds.{scene, AllOf, EndedWell, HaveEnded, HaveOpenRoles, IsSameMachine};
 
 use crate::role::{Gate, Role, Turn};

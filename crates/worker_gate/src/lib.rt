@@ -31,7 +31,6 @@ mod actor;
 mod closing;
 mod crew;
 mod drawn;
-mod place;
 mod role;
 mod rounds;
 mod run;
@@ -41,7 +40,7 @@ pub use actor::Actor;
 pub use closing::{Run, close_run};
 pub use crew::{play_crew, play_crews};
 pub use drawn::play_drawn;
-pub use place::Place;
+pub use part_places::Place;
 pub use role::{Gate, Role, Turn};
 pub use rounds::{play_alone, set_up};
 pub use run::{

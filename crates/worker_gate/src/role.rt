@@ -6,11 +6,11 @@ ghost use Rattle.tp_model.specs.History.{IsLegal};
 ghost use Rattle.tp_model.specs.Stages.{is_in_part};
 ghost use Rattle.tp_script.specs.Calls.{IsOfPart};
 ghost use Rattle.turn_lock.specs.Histories.{own};
-ghost use Rattle.worker_gate.specs.Places.{given, next_call};
+ghost use Rattle.part_places.specs.Places.{given, next_call};
 ghost use Rattle.worker_gate.specs.Roles.{due_of, due_or, ends, is_idle_take, is_last_turn, is_open, new_role, took, turn_by, turned, who_of, HasTurned, IsOf};
 ghost use Rattle.worker_gate.specs.Runs.{is_over_in};
 
-use crate::place::Place;
+use part_places::Place;
 use recorded::Recorded;
 use tp_base::answers::{Answer, Look, Outcome};
 use tp_base::calls::Call;

@@ -5,7 +5,7 @@ ghost use Rattle.recorded.specs.Recordings.{is_over_behind};
 ghost use Rattle.tp_model.specs.History.{IsLegal};
 ghost use Rattle.turn_lock.specs.Histories.{own};
 ghost use Rattle.worker_gate.specs.Lively.{ArePlayedOn};
-ghost use Rattle.worker_gate.specs.Places.{given};
+ghost use Rattle.part_places.specs.Places.{given};
 ghost use Rattle.worker_gate.specs.Roles.{IsOf};
 ghost use Rattle.worker_gate.specs.Rounds.{awake, round_of, scene, AllOf, ArePlayed, EndedWell, HasPlayed, HaveEnded, HaveOpenRoles, IsSameMachine, PlaysAlone};
 

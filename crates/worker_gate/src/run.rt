@@ -15,7 +15,7 @@ ghost use Rattle.worker_gate.specs.Closing.{BeginsAsMade};
 ghost use Rattle.worker_gate.specs.Crews.{HasStopped};
 ghost use Rattle.worker_gate.specs.Crowds.{AreNew, IsNewActor, IsNewSeat};
 ghost use Rattle.worker_gate.specs.Drawn.{IsDrawn};
-ghost use Rattle.worker_gate.specs.Places.{given, Given};
+ghost use Rattle.part_places.specs.Places.{given, Given};
 ghost use Rattle.worker_gate.specs.Roles.{new_role};
 ghost use Rattle.worker_gate.specs.Rounds.{NeverWaits};
 ghost use Rattle.worker_gate.specs.Runs.{IsCutShort, Runs};

@@ -4,7 +4,7 @@ ghost use Rattle.std.specs.Prelude.{◌≡◌, true, false, All};
 ghost use Rattle.tp_model.specs.Stages.{is_in_part};
 ghost use Rattle.worker_gate.specs.Acting.{has_ended, role_in, seat_in, GoesOn, IsReady};
 ghost use Rattle.worker_gate.specs.Closing.{HasHeard, HasTold, HaveHeard};
-ghost use Rattle.worker_gate.specs.Places.{given};
+ghost use Rattle.part_places.specs.Places.{given};
 ghost use Rattle.shared_pool.specs.Pools.{IsPlayer};
 
 use crate::actor::Actor;

@@ -6,7 +6,7 @@ use Rattle.worker_gate.specs.declared.actor.Actor.{Actor}
 use Rattle.worker_gate.specs.declared.role.Role.{Role}
 use Rattle.worker_gate.specs.Acting.{seat_in}
 use Rattle.worker_gate.specs.Closing.{BeginsAsMade, IsFirstPlayed}
-use Rattle.worker_gate.specs.Places.{given}
+use Rattle.part_places.specs.Places.{given}
 use Rattle.worker_gate.specs.Rounds.{AllOf, HaveAllRoles}
 use Rattle.worker_gate.proofs.Back.{all_last, capacity_last, client_last, first_last, has_last, known_last, legal_last, limits_last, made_last, seats_of, worker_last}
 use Rattle.worker_gate.proofs.Ending.{rounds_more}

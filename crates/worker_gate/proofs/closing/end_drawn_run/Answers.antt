@@ -1,4 +1,4 @@
-use Rattle.worker_gate.specs.Places.{given}
+use Rattle.part_places.specs.Places.{given}
 use Rattle.worker_gate.proofs.DrawnRun.{drawn_more, drawn_whos}
 use Rattle.worker_gate.proofs.Ending.{cut_of, run_of}
 use Rattle.worker_gate.proofs.closing.end_drawn_run.Goals as goal

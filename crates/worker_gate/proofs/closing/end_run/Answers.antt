@@ -1,4 +1,4 @@
-use Rattle.worker_gate.specs.Places.{given}
+use Rattle.part_places.specs.Places.{given}
 use Rattle.worker_gate.proofs.Ending.{cut_of, rounds_more, rounds_whos, run_of}
 use Rattle.worker_gate.proofs.closing.end_run.Goals as goal
 

@@ -1,4 +1,4 @@
-use Rattle.worker_gate.specs.Places.{given}
+use Rattle.part_places.specs.Places.{given}
 use Rattle.worker_gate.proofs.Crews.{crew_begins, crew_ended, crew_moved, crew_waited}
 use Rattle.worker_gate.proofs.crew.play_crew.Goals as goal
 

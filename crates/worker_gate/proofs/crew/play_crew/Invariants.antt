@@ -1,6 +1,6 @@
 use Rattle.std.proofs.Common.{◌-◌, ◌+◌, ◌*◌}
 use Rattle.worker_gate.specs.Crews.{spare}
-use Rattle.worker_gate.specs.Places.{given}
+use Rattle.part_places.specs.Places.{given}
 use Rattle.worker_gate.proofs.Crews.{CrewSoFar}
 use Rattle.worker_gate.proofs.crew.play_crew.Given as goal
 

@@ -1,5 +1,5 @@
 use Rattle.std.proofs.Common.{◌≡◌, arith, length, vec_items}
-use Rattle.worker_gate.specs.Places.{given}
+use Rattle.part_places.specs.Places.{given}
 use Rattle.worker_gate.proofs.Crews.{crew_ready, crews_back, crews_ready, if_both}
 use Rattle.worker_gate.proofs.crew.play_crews.Goals as goal
 

@@ -1,5 +1,5 @@
 use Rattle.std.proofs.Common.{◌<◌, length, arith}
-use Rattle.worker_gate.specs.Places.{given}
+use Rattle.part_places.specs.Places.{given}
 use Rattle.worker_gate.proofs.Crews.{round_goes_on}
 use Rattle.worker_gate.proofs.crew.play_round.Goals as goal
 

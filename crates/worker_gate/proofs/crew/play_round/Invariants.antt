@@ -1,4 +1,4 @@
-use Rattle.worker_gate.specs.Places.{given}
+use Rattle.part_places.specs.Places.{given}
 use Rattle.worker_gate.proofs.Crews.{RoundSoFar}
 use Rattle.worker_gate.proofs.crew.play_round.Given as goal
 

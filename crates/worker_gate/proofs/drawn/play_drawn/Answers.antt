@@ -1,7 +1,7 @@
 use Rattle.std.proofs.Common.{◌≡◌, [], eqb-true, ap, sym, ◌∙◌, arith, rules}
 use Rattle.std.proofs.lemmas.List.{nil_from_length}
 use Rattle.worker_gate.specs.Drawn.{open_places}
-use Rattle.worker_gate.specs.Places.{given}
+use Rattle.part_places.specs.Places.{given}
 use Rattle.worker_gate.proofs.DrawnRun.{passes_begin, passes_ended, passes_fewer, passes_go_on, passes_lively, passes_over}
 use Rattle.worker_gate.proofs.drawn.play_drawn.Goals as goal
 

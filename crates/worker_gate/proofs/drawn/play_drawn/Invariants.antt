@@ -1,6 +1,6 @@
 use Rattle.std.proofs.Common.{◌≡◌}
 use Rattle.worker_gate.specs.Drawn.{open_places}
-use Rattle.worker_gate.specs.Places.{given}
+use Rattle.part_places.specs.Places.{given}
 use Rattle.worker_gate.specs.Rounds.{scene}
 use Rattle.worker_gate.proofs.DrawnRun.{PassesSoFar}
 use Rattle.worker_gate.proofs.Lasting.{rounds_left}

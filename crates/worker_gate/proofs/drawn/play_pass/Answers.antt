@@ -4,7 +4,7 @@ use Rattle.std.specs.List.{list_any}
 use Rattle.worker_gate.specs.declared.role.Role.{Role}
 use Rattle.worker_gate.specs.Roles.{is_last_turn, is_open}
 use Rattle.worker_gate.specs.Drawn.{left_after, open_places}
-use Rattle.worker_gate.specs.Places.{given}
+use Rattle.part_places.specs.Places.{given}
 use Rattle.worker_gate.proofs.DrawnPass.{pass_ends, pass_first, pass_goes_on, pass_less, pass_open, place_there, role_of}
 use Rattle.worker_gate.proofs.Unfinished.{any_not_over}
 use Rattle.worker_gate.proofs.drawn.play_pass.Goals as goal

@@ -1,6 +1,6 @@
 use Rattle.std.proofs.Common.{◌≡◌, true}
 use Rattle.worker_gate.specs.Drawn.{open_places}
-use Rattle.worker_gate.specs.Places.{given}
+use Rattle.part_places.specs.Places.{given}
 use Rattle.worker_gate.specs.Rounds.{scene}
 use Rattle.worker_gate.proofs.DrawnPass.{turns_left, PassSoFar}
 use Rattle.worker_gate.proofs.drawn.play_pass.Given as goal

@@ -1,5 +1,5 @@
 use Rattle.std.proofs.lemmas.Bool.{both_ways}
-use Rattle.worker_gate.specs.Places.{given}
+use Rattle.part_places.specs.Places.{given}
 use Rattle.worker_gate.proofs.Lasting.{rounds_begin, rounds_fewer, rounds_go_on, rounds_over, rounds_played}
 use Rattle.worker_gate.proofs.rounds.play_alone.Goals as goal
 

@@ -1,4 +1,4 @@
-use Rattle.worker_gate.specs.Places.{given}
+use Rattle.part_places.specs.Places.{given}
 use Rattle.worker_gate.specs.Rounds.{scene}
 use Rattle.worker_gate.proofs.Lasting.{rounds_left, RoundsSoFar}
 use Rattle.worker_gate.proofs.rounds.play_alone.Given as goal

@@ -1,7 +1,7 @@
 use Rattle.std.proofs.Common.{◌≡◌, ◌<◌, if◌then◌else◌, true, false, ap, length, arith, ◌∙◌}
 use Rattle.std.proofs.lemmas.List.{get_or-set_same}
 use Rattle.worker_gate.specs.declared.role.Role.{Role}
-use Rattle.worker_gate.specs.Places.{given}
+use Rattle.part_places.specs.Places.{given}
 use Rattle.worker_gate.specs.Roles.{is_last_turn, is_open}
 use Rattle.worker_gate.proofs.Playing.{round_ends, round_goes_on, still_on, still_off}
 use Rattle.worker_gate.proofs.Unfinished.{one_off, one_on, open_not_over, open_on}

@@ -1,5 +1,5 @@
 use Rattle.std.proofs.Common.{◌≡◌, true}
-use Rattle.worker_gate.specs.Places.{given}
+use Rattle.part_places.specs.Places.{given}
 use Rattle.worker_gate.proofs.Playing.{RoundSoFar}
 use Rattle.worker_gate.proofs.Unfinished.{IsOneOpen}
 use Rattle.worker_gate.proofs.rounds.play_one.Given as goal

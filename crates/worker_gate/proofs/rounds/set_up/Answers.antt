@@ -1,5 +1,5 @@
 use Rattle.std.proofs.Common.{◌∙◌, sym}
-use Rattle.worker_gate.specs.Places.{given}
+use Rattle.part_places.specs.Places.{given}
 use Rattle.worker_gate.proofs.SettingUp.{alone_begins, alone_goes_on, alone_legal, alone_less, alone_played, alone_who}
 use Rattle.worker_gate.proofs.rounds.set_up.Goals as goal
 

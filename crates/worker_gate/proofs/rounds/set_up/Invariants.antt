@@ -1,4 +1,4 @@
-use Rattle.worker_gate.specs.Places.{given}
+use Rattle.part_places.specs.Places.{given}
 use Rattle.worker_gate.proofs.SettingUp.{spare_of, AloneSoFar}
 use Rattle.worker_gate.proofs.rounds.set_up.Given as goal
 

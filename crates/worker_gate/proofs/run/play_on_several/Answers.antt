@@ -3,7 +3,7 @@ use Rattle.std.proofs.lemmas.Result.{IfOk-weaker}
 use Rattle.worker_gate.specs.declared.actor.Actor.{Actor}
 use Rattle.worker_gate.specs.declared.closing.Run.{Run}
 use Rattle.worker_gate.specs.Crews.{HasStopped}
-use Rattle.worker_gate.specs.Places.{given}
+use Rattle.part_places.specs.Places.{given}
 use Rattle.worker_gate.proofs.Crowds.{all_are_back, all_stopped, crews_ready, first_is_told, removed, setup_client, setup_its, setup_seats, setup_worker, some_opened}
 use Rattle.worker_gate.proofs.run.play_on_several.Goals as goal
 

@@ -1,5 +1,5 @@
 use Rattle.std.proofs.Common.{arith}
-use Rattle.worker_gate.specs.Places.{given}
+use Rattle.part_places.specs.Places.{given}
 use Rattle.worker_gate.proofs.OneThread.{last_capacity, last_drawn, last_legal, last_limits, now_all, now_client, now_covers, now_first, now_known, now_legal, now_well, now_worker, some_role, start_alone, start_stands}
 use Rattle.worker_gate.proofs.run.play_routines_drawn.Goals as goal
 

@@ -1,5 +1,5 @@
 use Rattle.worker_gate.specs.Acting.{GoesOn, IsReady}
-use Rattle.worker_gate.specs.Places.{given}
+use Rattle.part_places.specs.Places.{given}
 use Rattle.worker_gate.proofs.telling.finish.Given as goal
 
 abbrev pub invariant-loop : goal.invariant-loop

@@ -1,6 +1,6 @@
 use Rattle.std.proofs.Common.{sym, subst}
 use Rattle.shared_pool.specs.declared.pool.Tried.{Tried}
-use Rattle.worker_gate.specs.Places.{given}
+use Rattle.part_places.specs.Places.{given}
 use Rattle.worker_gate.proofs.Acting.{played_goes_on, played_ready, played_said, tried_ended, Tells}
 use Rattle.worker_gate.proofs.Turning.{step_keeps}
 use Rattle.worker_gate.proofs.actor.Actor.plays.Goals.{in-Done, in-Look, in-Full}

@@ -1,5 +1,5 @@
 use Rattle.std.proofs.Common.{refl}
-use Rattle.worker_gate.specs.Places.{given}
+use Rattle.part_places.specs.Places.{given}
 use Rattle.worker_gate.proofs.Acting.{asked_ready, done_ready, paused_ready}
 use Rattle.worker_gate.proofs.actor.Actor.turn.Goals as goal
 

@@ -1,4 +1,4 @@
-use Rattle.worker_gate.specs.Places.{given}
+use Rattle.part_places.specs.Places.{given}
 use Rattle.worker_gate.proofs.Turning.{has_turned}
 use Rattle.worker_gate.proofs.role.Role.makes.Goals as goal
 

@@ -4,7 +4,7 @@ ghost use Rattle.std.specs.Prelude.{◌≡◌, true, false, IfSome, is_some};
 ghost use Rattle.tp_base.specs.Ranges.{IsCallInRange};
 ghost use Rattle.tp_model.specs.Stages.{first_stage, stage_after, waits_after};
 ghost use Rattle.tp_script.specs.Calls.{IsOfPart};
-ghost use Rattle.worker_gate.specs.Places.{given, is_last, is_taken, next_call, next_in, opening, part_in, place_after, progress_after, told_in};
+ghost use Rattle.part_places.specs.Places.{given, is_last, is_taken, next_call, next_in, opening, part_in, place_after, progress_after, told_in};
 
 use tp_base::answers::Answer;
 use tp_base::calls::Call;
@@ -37,9 +37,9 @@ impl Place {
         }
     }
 
-    // The next call of the actor's part: while a wait is begun its end.
+    /// The next call of the actor's part, or None where it makes no further one: while a wait is begun its end.
     #[inline(always)]
-    pub(crate) fn next_call<R: Routines>(&self, who: Who, routines: &R) -> Option<Call>
+    pub fn next_call<R: Routines>(&self, who: Who, routines: &R) -> Option<Call>
         ensures value { result ≡ next_call (given R.next_of R.after_of routines.now) who self.now }
         ensures in_range { IfSome result IsCallInRange }
         ensures of_part { IfSome result IsOfPart }
@@ -53,7 +53,7 @@ impl Place {
 
     // The same while no wait is begun.
     #[inline(always)]
-    pub(crate) fn next_in<R: Routines>(&self, who: Who, routines: &R) -> Option<Call>
+    fn next_in<R: Routines>(&self, who: Who, routines: &R) -> Option<Call>
         ensures value { result ≡ next_in (given R.next_of R.after_of routines.now) (part_in self.now.stage who) self.now.at }
         ensures in_range { IfSome result IsCallInRange }
         ensures of_part { IfSome result IsOfPart }
@@ -64,10 +64,10 @@ impl Place {
         }
     }
 
-    // Goes on behind a call of the actor and its answer. A last call that it makes unmarked cuts nothing, so only behind a
-    // marked one the part is asked for a further call.
+    /// Goes on behind a call of the actor and its answer. A last call that it makes unmarked cuts nothing, so only behind a
+    /// marked one the part is asked for a further call.
     #[inline(always)]
-    pub(crate) fn goes_on<R: Routines>(
+    pub fn goes_on<R: Routines>(
         &mut self,
         who: Who,
         routines: &R,

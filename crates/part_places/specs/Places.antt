@@ -15,7 +15,7 @@ use Rattle.tp_script.specs.declared.routines.Part.{Part}
 use Rattle.tp_script.specs.declared.routines.Part.TheVariants as part
 use Rattle.tp_script.specs.declared.routines.Progress.{Progress}
 use Rattle.tp_script.specs.Nexts.{first_progress}
-use Rattle.worker_gate.specs.declared.place.Place.{Place}
+use Rattle.part_places.specs.declared.place.Place.{Place}
 
 -- the calls of routines, part by part: which one follows, and how far the part is behind its answer
 pub record Given : Type 0 where
