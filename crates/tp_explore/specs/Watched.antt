@@ -1,0 +1,53 @@
+-- What a script says besides its calls: which operations may be refused, and what is said of memories and of callbacks between them.
+--
+-- What a reader of scripts gives for it:
+--     given                  the calls of the parts, as everywhere
+--     may_refuse part op     whether the operation of this place of the part may be refused; the place is the `op` of a `Progress`
+--     line part op           the line of the text where that operation stands, from 1
+--     marks part at          the marks above the operation of the place `at.op` and below the one before it, in the order of the
+--                            text: what a part says once it has come there. At `op` 0 they are its first marks, and behind the
+--                            last operation those at its end. A local name stands for its number in `at.locals`, 0 for none yet
+--     all_marks routine      all the marks of a routine, in the order of the text, where local names stand for none
+-- Memories are numbered from 1. Objects made behind client 1's declarations have their lines from `line`.
+use Rattle.std.specs.Prelude.{ℕ, Bool, false, List, [], Option, None, Some}
+use Rattle.tp_base.specs.declared.ids.RoutineId.{RoutineId}
+use Rattle.tp_base.specs.declared.rows.WaitTarget.{WaitTarget}
+use Rattle.tp_script.specs.declared.routines.Part.{Part}
+use Rattle.tp_script.specs.declared.routines.Progress.{Progress}
+use Rattle.part_places.specs.Places.{Given}
+
+pub data Mark : Type 0 where
+  -- the part uses the memory from here on
+  Use : (memory : ℕ) → Mark
+  -- and no longer
+  Drop : (memory : ℕ) → Mark
+  -- the memory is gone
+  Free : (memory : ℕ) → Mark
+  -- no callback of the object or group runs from here on. Object 0 is none
+  Quiet : (target : WaitTarget) → Mark
+
+-- a mark, and its line in the text
+pub record Marked : Type 0 where
+  pub mark : Mark
+  pub line : ℕ
+
+pub record Watched : Type 0 where
+  pub given : Given
+  pub may_refuse : Part → ℕ → Bool
+  pub line : Part → ℕ → ℕ
+  pub marks : Part → Progress → List Marked
+  pub all_marks : RoutineId → List Marked
+
+module _ (k : Watched) where
+  -- the same of the part that an actor plays, if it plays one
+  abbrev pub may_refuse_in : Option Part → ℕ → Bool
+  may_refuse_in None op = false
+  may_refuse_in (Some part) op = k.may_refuse part op
+
+  abbrev pub line_in : Option Part → ℕ → ℕ
+  line_in None op = 0
+  line_in (Some part) op = k.line part op
+
+  abbrev pub marks_in : Option Part → Progress → List Marked
+  marks_in None at = []
+  marks_in (Some part) at = k.marks part at
