@@ -5,5 +5,30 @@
 mod fault;
 mod noted;
 
+ghost use Rattle.std.specs.Prelude.{◌≡◌, List, ◌++◌};
+ghost use Rattle.tp_base.specs.declared.answers.Entry.{Entry};
+ghost use Rattle.tp_base.specs.declared.limits.Limits.{Limits};
+ghost use Rattle.tp_explore.specs.Alike.{AreAlike};
+ghost use Rattle.tp_explore.specs.Faults.{faults_from};
+ghost use Rattle.tp_explore.specs.Legal.{IsLegalAtLast};
+ghost use Rattle.tp_explore.specs.Noted.{Noted};
+ghost use Rattle.part_places.specs.Places.{Given};
+ghost use Rattle.tp_explore.specs.Scenes.{scene_behind, IsOrder};
+ghost use Rattle.tp_explore.specs.Watched.{Watched};
+
 pub use fault::{Fault, FaultKind};
 pub use noted::{Hush, Use};
+
+/// Behind orders whose scenes differ in callbacks that are over alone, the same orders go on, with the same faults
+/// whatever was noted. So a search may forget those callbacks. It does nothing: who calls it knows this.
+pub fn forgetting_loses_nothing()
+    ensures orders { (k : Watched) (limits : Limits) (before other more : List Entry) → IsOrder k.given limits before → IsOrder k.given limits other → AreAlike (scene_behind k.given limits before) (scene_behind k.given limits other) → IsOrder k.given limits (before ++ more) → IsOrder k.given limits (other ++ more) }
+    ensures faults { (k : Watched) (limits : Limits) (noted : Noted) (before other more : List Entry) → IsOrder k.given limits before → IsOrder k.given limits other → AreAlike (scene_behind k.given limits before) (scene_behind k.given limits other) → IsOrder k.given limits (before ++ more) → faults_from k limits (scene_behind k.given limits before) noted more ≡ faults_from k limits (scene_behind k.given limits other) noted more }
+{}
+
+/// An order is a legal history wherever there is room enough for it: with each capacity from some one on. It does nothing:
+/// who calls it knows this.
+#[tactic(auto, using(crate::proofs::Legal::order_legal))]
+pub fn orders_are_legal()
+    ensures { (g : Given) (limits : Limits) (history : List Entry) → IsOrder g limits history → IsLegalAtLast limits history }
+{}
