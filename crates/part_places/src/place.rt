@@ -51,9 +51,9 @@ impl Place {
         }
     }
 
-    // The same while no wait is begun.
+    /// The same while no wait is begun.
     #[inline(always)]
-    fn next_in<R: Routines>(&self, who: Who, routines: &R) -> Option<Call>
+    pub fn next_in<R: Routines>(&self, who: Who, routines: &R) -> Option<Call>
         ensures value { result ≡ next_in (given R.next_of R.after_of routines.now) (part_in self.now.stage who) self.now.at }
         ensures in_range { IfSome result IsCallInRange }
         ensures of_part { IfSome result IsOfPart }
