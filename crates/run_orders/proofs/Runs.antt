@@ -1,5 +1,5 @@
 -- A run whose room is never short, and of which no part was cut, is an order.
-use Rattle.std.proofs.Common.{◌≡◌, ℕ, ◌+◌, ◌≤◌, Bool, true, false, cond, ◌&&◌, ◌||◌, nat_lt, List, [], ◌∷◌, ◌++◌, All, Contains, is_some, inl, inr, refl, sym, ap, ap₂, ◌∙◌, subst, arith, append-nil}
+use Rattle.std.proofs.Common.{◌≡◌, Option, Some, None, ℕ, ◌+◌, ◌≤◌, Bool, true, false, cond, ◌&&◌, ◌||◌, nat_lt, List, [], ◌∷◌, ◌++◌, All, Contains, is_some, inl, inr, refl, sym, ap, ap₂, ◌∙◌, subst, arith, append-nil}
 use Rattle.std.specs.Option.{unwrap_or}
 use Rattle.std.proofs.lemmas.List.Elements.{All-head, All-tail}
 use Rattle.tp_base.specs.Actors.{is_same_actor}
@@ -8,9 +8,10 @@ use Rattle.tp_base.specs.declared.answers.Answer.TheVariants as answer
 use Rattle.tp_base.specs.declared.answers.Entry.{Entry}
 use Rattle.tp_base.specs.declared.answers.Outcome.TheVariants.{Done}
 use Rattle.tp_base.specs.declared.calls.Call.{Call}
-use Rattle.tp_base.specs.declared.calls.Call.TheVariants.{Finish, Return}
+use Rattle.tp_base.specs.declared.answers.Refusal.{Refusal}
+use Rattle.tp_base.specs.declared.calls.Call.TheVariants.{Attach, Finish, Return}
 use Rattle.tp_base.specs.declared.ids.Who.{Who}
-use Rattle.tp_base.specs.declared.ids.Who.TheVariants.{Client}
+use Rattle.tp_base.specs.declared.ids.Who.TheVariants.{Client, Worker}
 use Rattle.tp_base.specs.declared.limits.Limits.{Limits}
 use Rattle.tp_base.specs.declared.plans.Plan.{Plan}
 use Rattle.tp_base.specs.declared.plans.Plan.TheVariants.{Does, Looked, Refused}
@@ -23,7 +24,11 @@ use Rattle.tp_model.specs.Step.{cost, outcome_of, stepped, within}
 use Rattle.tp_model.specs.Step as step
 use Rattle.tp_model.specs.Table as table
 use Rattle.tp_model.specs.Table.{plan}
-use Rattle.tp_model.specs.World.{World}
+use Rattle.tp_model.specs.World.{World, opening as opening_world}
+use Rattle.tp_model.specs.Calls.Workers.{attach_plan, attach_refusals, attach_to, pool_to_join}
+use Rattle.tp_model.specs.Counts.{attached, available, is_below_minimum, maximum}
+use Rattle.tp_model.specs.Laws.Entries.{attached_by}
+use Rattle.tp_model.specs.Refusing.{first_refusal, unless_refused}
 use Rattle.tp_model.proofs.Entries.{next_number_in}
 use Rattle.tp_model.proofs.Refusals.{is_own_actor, same_actor_is}
 use Rattle.turn_lock.specs.Histories.{own}
@@ -117,10 +122,9 @@ module _ (g : Given) where
   other_turns s [] over others = tt
   other_turns s (e ∷ rest) over others =
       let stays : (scene_after g s e).places (Client 1) ≡ s.places (Client 1)
-      = ap (λ b. cond b (place_after g e.who (s.places e.who) e.call e.answer) (s.places (Client 1))) (All-head IsOther e rest others) in
-      (
+      = ap (λ b. cond b (place_after g e.who (s.places e.who) e.call e.answer) (s.places (Client 1))) (All-head IsOther e rest others) in (
         or_over (is_same_actor e.who (Client 1)) (is_over_stage (s.places (Client 1)).stage) over,
-        other_turns (scene_after g s e) rest (ap (λ (p : Place). is_over_stage p.stage) stays ∙ over) (All-tail IsOther e rest others)
+        other_turns (scene_after g s e) rest (ap (λ (p : Place). is_over_stage p.stage) stays ∙ over) (All-tail IsOther e rest others),
       )
 
   turns_append : (s : Scene) (front rest : List Entry) → HasTurns s front → HasTurns (scene_from g s front) rest → HasTurns s (front ++ rest)
@@ -192,10 +196,9 @@ module _ (g : Given) where
       unfolding AllDue
       due_from before p [] leads uncut = tt
       due_from before p (e ∷ rest) leads uncut =
-          let here : (p.cut || (is_last e.call && is_some (next_call g who p))) ≡ false = uncut_before (place_after g who p e.call e.answer) rest uncut in
-          (
+          let here : (p.cut || (is_last e.call && is_some (next_call g who p))) ≡ false = uncut_before (place_after g who p e.call e.answer) rest uncut in (
             due_at p.stage before p e leads.0 (or_right p.cut (is_last e.call && is_some (next_call g who p)) here),
-            due_from (before ++ e ∷ []) (place_after g who p e.call e.answer) rest leads.1 uncut
+            due_from (before ++ e ∷ []) (place_after g who p e.call e.answer) rest leads.1 uncut,
           )
 
   due_step : (s : Scene) (e : Entry) (who : Who) (rest : List Entry) → AllDue who (s.places who) (own who (e ∷ rest)) → AllDue who ((scene_after g s e).places who) (own who rest)
@@ -216,15 +219,14 @@ module _ (g : Given) where
     unfolding HasTurns
     order_from s entries [] known turns due legal roomy = tt
     order_from s entries (e ∷ rest) known turns due legal roomy =
-        let actor : IsActor limits e.who = All-head (λ (x : Entry). IsActor limits x.who) e rest known in
-        (
+        let actor : IsActor limits e.who = All-head (λ (x : Entry). IsActor limits x.who) e rest known in (
           record {
             actor = actor;
             turn = turns.0;
             due = due_here s e rest (due e.who actor);
             answers = freely_told s.world (room capacity s.world entries) e.who e.call e.answer roomy.0 legal.0;
           },
-          order_from (scene_after g s e) (entries + 1) rest (All-tail (λ (x : Entry). IsActor limits x.who) e rest known) turns.1 (λ who is. due_step s e who rest (due who is)) legal.1 roomy.1
+          order_from (scene_after g s e) (entries + 1) rest (All-tail (λ (x : Entry). IsActor limits x.who) e rest known) turns.1 (λ who is. due_step s e who rest (due who is)) legal.1 roomy.1,
         )
 
     module _ (history : List Entry) (uncut : IsCutShort g limits history → ⊥) where
@@ -235,9 +237,44 @@ module _ (g : Given) where
           known true is = absurd (uncut (who, actor, is))
           known false is = is
 
-pub run_is_order : (g : Given) (limits : Limits) (capacity : ℕ) (history : List Entry) → 1 ≤ limits.clients → Runs g limits capacity history → IsLegal limits capacity history → IsRoomy limits capacity history → (IsCutShort g limits history → ⊥) → IsOrder g limits history
-run_is_order g limits capacity history client run legal roomy uncut =
-    order_from g limits capacity (first_scene limits) 0 history run.known
-    (turns_in_run g limits history run.first (run.each (Client 1) (omega arith, client)).ends)
-    (λ who actor. due_from g who limits capacity history [] (opening who) (own who history) (run.each who actor).leads (not_cut g limits capacity history uncut who actor))
+-- ---- where there is no client, nobody makes a call
+
+below_none : (n : ℕ) → nat_lt n 0 ≡ false
+below_none n = grind arith
+
+none_to_join : (limits : Limits) → pool_to_join (opening_world limits) ≡ None
+none_to_join limits =
+    let w : World = opening_world limits in
+    let calm : is_below_minimum w 0 ≡ false = ap (λ b. b && nat_lt (attached w 0) (maximum w 0)) (below_none (available w 0)) in
+    ap (λ b. cond b (Some 0) None) calm
+
+attaches_not : (w : World) (number : ℕ) (told : Answer) → pool_to_join w ≡ None → freely w (Worker number) Attach ≡ Done told → is_some (attached_by told) ≡ true → ⊥
+unfolding attach_plan
+attaches_not w number told none is attached =
+    of_refusal (first_refusal (attach_refusals w (Worker number))) (ap (λ p. outcome_of (stepped w (unless_refused (first_refusal (attach_refusals w (Worker number))) (attach_to (Worker number) p)))) (sym none) ∙ is)
+  where
+    of_refusal : (r : Option Refusal) → outcome_of (stepped w (unless_refused r (attach_to (Worker number) None))) ≡ Done told → ⊥
+    of_refusal None e = let never : ⊥ = cc in never
+    of_refusal (Some refusal) e =
+        let same : answer.Refused refusal ≡ told = cc in
+        true_false (is_some (attached_by told)) attached (ap (λ a. is_some (attached_by a)) (sym same))
+
+client_there : (g : Given) (limits : Limits) (capacity : ℕ) (e : Entry) (rest : List Entry) → Runs g limits capacity (e ∷ rest) → IsLegal limits capacity (e ∷ rest) → IsRoomy limits capacity (e ∷ rest) → 1 ≤ limits.clients
+client_there g limits capacity e rest run legal roomy = of_who e.who refl (All-head (λ (x : Entry). IsActor limits x.who) e rest run.known)
+  where
+    of_who : (who : Who) → e.who ≡ who → IsActor limits who → 1 ≤ limits.clients
+    of_who (Client number) is actor = omega (arith, actor.0, actor.1)
+    of_who (Worker number) is actor =
+        let owned : own (Worker number) (e ∷ rest) ≡ e ∷ own (Worker number) rest = ap (λ b. cond b (e ∷ own (Worker number) rest) (own (Worker number) rest)) (ap (λ a. is_same_actor a (Worker number)) is ∙ is_own_actor (Worker number)) in
+        let leads : Leads g limits capacity (e ∷ rest) (Worker number) [] (opening (Worker number)) (e ∷ own (Worker number) rest) = subst (Leads g limits capacity (e ∷ rest) (Worker number) [] (opening (Worker number))) owned (run.each (Worker number) actor).leads in
+        let came : freely (opening_world limits) e.who e.call ≡ Done e.answer = freely_told (opening_world limits) (room capacity (opening_world limits) 0) e.who e.call e.answer roomy.0 legal.0 in
+        absurd (attaches_not (opening_world limits) number e.answer (none_to_join limits) (ap₂ (λ a c. freely (opening_world limits) a c) (sym is) (sym leads.0.0) ∙ came) leads.0.1)
+
+pub run_is_order : (g : Given) (limits : Limits) (capacity : ℕ) (history : List Entry) → Runs g limits capacity history → IsLegal limits capacity history → IsRoomy limits capacity history → (IsCutShort g limits history → ⊥) → IsOrder g limits history
+run_is_order g limits capacity [] run legal roomy uncut = tt
+run_is_order g limits capacity (e ∷ rest) run legal roomy uncut =
+    let client : 1 ≤ limits.clients = client_there g limits capacity e rest run legal roomy in
+    order_from g limits capacity (first_scene limits) 0 (e ∷ rest) run.known
+    (turns_in_run g limits (e ∷ rest) run.first (run.each (Client 1) (omega arith, client)).ends)
+    (λ who actor. due_from g who limits capacity (e ∷ rest) [] (opening who) (own who (e ∷ rest)) (run.each who actor).leads (not_cut g limits capacity (e ∷ rest) uncut who actor))
     legal roomy

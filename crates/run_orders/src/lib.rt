@@ -10,7 +10,7 @@
 
 #![tactic(auto)]
 
-ghost use Rattle.std.specs.Prelude.{ℕ, ◌≤◌, List};
+ghost use Rattle.std.specs.Prelude.{ℕ, List};
 ghost use Rattle.part_places.specs.Places.{Given};
 ghost use Rattle.tp_base.specs.declared.answers.Entry.{Entry};
 ghost use Rattle.tp_base.specs.declared.limits.Limits.{Limits};
@@ -19,9 +19,9 @@ ghost use Rattle.tp_explore.specs.Scenes.{IsOrder};
 ghost use Rattle.tp_model.specs.History.{IsLegal};
 ghost use Rattle.worker_gate.specs.Runs.{IsCutShort, Runs};
 
-/// A legal run with a client is an order, where before each of its entries there was a room of 4 or more, and none of its
+/// A legal run is an order, where before each of its entries there was a room of 4 or more, and none of its
 /// parts was cut. It does nothing: who calls it knows this.
 #[tactic(auto, using(crate::proofs::Runs::run_is_order))]
 pub fn runs_are_orders()
-    ensures { (g : Given) (limits : Limits) (capacity : ℕ) (history : List Entry) → 1 ≤ limits.clients → Runs g limits capacity history → IsLegal limits capacity history → IsRoomy limits capacity history → (IsCutShort g limits history → ⊥) → IsOrder g limits history }
+    ensures { (g : Given) (limits : Limits) (capacity : ℕ) (history : List Entry) → Runs g limits capacity history → IsLegal limits capacity history → IsRoomy limits capacity history → (IsCutShort g limits history → ⊥) → IsOrder g limits history }
 {}
