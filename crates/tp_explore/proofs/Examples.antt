@@ -66,11 +66,10 @@ refusal_told = refl
 
 refusal_is_order : IsOrder silent.given limits refused
 unfolding limits entry submit next silent refused finish_plan submit_work_plan
-refusal_is_order =
-    (
-      record { actor = (omega arith, omega arith); turn = refl; due = (0, omega arith, refl); answers = refl },
-      (record { actor = (omega arith, omega arith); turn = refl; due = (0, omega arith, refl); answers = refl }, tt)
-    )
+refusal_is_order = (
+  record { actor = (omega arith, omega arith); turn = refl; due = (0, omega arith, refl); answers = refl },
+  (record { actor = (omega arith, omega arith); turn = refl; due = (0, omega arith, refl); answers = refl }, tt),
+)
 
 refusal_allowed : faults_of (record silent { may_refuse = λ part op. true }) limits refused ≡ []
 unfolding limits entry submit next silent refused finish_plan
