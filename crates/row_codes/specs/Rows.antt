@@ -119,7 +119,7 @@ object_code o = kind_code o.kind ++ flag o.released ++ routine_id_code o.routine
 abbrev pub callback_code : CallbackRow → List ℕ
 callback_code c =
     number c.number ++ number c.context ++ object_id_code c.object ++ routine_id_code c.routine ++ pool_id_code c.pool ++ group_id_code c.group
-      ++ result_code c.result ++ status_code c.status ++ priority_code c.priority ++ flag c.long ++ flag c.persistent
+    ++ result_code c.result ++ status_code c.status ++ priority_code c.priority ++ flag c.long ++ flag c.persistent
 
 abbrev pub kernel_code : KernelRow → List ℕ
 kernel_code k = state_code k.state

@@ -10,5 +10,5 @@ wait_code w = who_code w.actor ++ target_code w.target ++ listed number w.covere
 abbrev pub world_code : World → List ℕ
 world_code w =
     limits_code w.limits ++ listed pool_code w.pools ++ listed group_code w.groups ++ listed object_code w.objects ++ listed callback_code w.callbacks
-      ++ listed kernel_code w.kernels ++ listed setting_code w.settings ++ listed arming_code w.armings ++ listed worker_code w.workers
-      ++ listed client_code w.clients ++ listed wait_code w.waits ++ number w.now ++ number w.given_up
+    ++ listed kernel_code w.kernels ++ listed setting_code w.settings ++ listed arming_code w.armings ++ listed worker_code w.workers
+    ++ listed client_code w.clients ++ listed wait_code w.waits ++ number w.now ++ number w.given_up

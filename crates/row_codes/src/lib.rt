@@ -48,5 +48,4 @@ pub fn put_all<T: Coded>(items: &[T], text: &mut Vec<u8>) -> Result<(), AllocErr
 /// Of worlds with one code the worlds are one.
 pub fn tells_worlds_apart()
     ensures { IsCode world_code }
-{
-}
+{}

@@ -231,7 +231,11 @@ impl Coded for Status {
             Status::Expected => put(text, 0),
             Status::Issued => put(text, 1),
             Status::Pending => put(text, 2),
-            Status::Running { worker, associated, slots } => {
+            Status::Running {
+                worker,
+                associated,
+                slots,
+            } => {
                 put(text, 3)?;
                 worker.put(text)?;
                 associated.put(text)?;

@@ -6,7 +6,10 @@ ghost use Rattle.row_codes.specs.AreCodes.{is_arming_code, is_callback_code, is_
 use crate::Coded;
 use std::alloc::AllocError;
 use tp_base::limits::Limits;
-use tp_base::rows::{Arming, CallbackRow, ClientRow, GroupRow, KernelRow, ObjectRow, PoolRow, TimerSetting, WorkerRow};
+use tp_base::rows::{
+    Arming, CallbackRow, ClientRow, GroupRow, KernelRow, ObjectRow, PoolRow, TimerSetting,
+    WorkerRow,
+};
 
 impl Coded for Limits {
     ghost code = { limits_code };
