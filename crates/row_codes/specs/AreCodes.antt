@@ -1,7 +1,7 @@
 -- The codes of rows are codes: a row is made of its fields again, and an enum's number tells its variants apart.
 use Rattle.std.proofs.Common.{◌≡◌, ℕ, List, ◌++◌, get_or, refl, ap, arith}
 use Rattle.short_codes.specs.Codes.{IsCode}
-use Rattle.short_codes.proofs.Codes.{flag_code, list_code, mapped_code, number_code, option_code, pair_code}
+use Rattle.short_codes.proofs.Codes.{flag_code, mapped_code, number_code, option_code, pair_code}
 use Rattle.tp_base.specs.declared.answers.TakeResult.{TakeResult}
 use Rattle.tp_base.specs.declared.answers.TakeResult.TheVariants.{Plain, WaitObject0, WaitTimeout, Io as IoEnd}
 use Rattle.tp_base.specs.declared.calls.Environ.{Environ}
