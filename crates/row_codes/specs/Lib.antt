@@ -1,0 +1,3 @@
+pub mod AreCodes
+pub mod Rows
+pub mod Worlds
