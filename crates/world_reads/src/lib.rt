@@ -15,16 +15,20 @@
 //! ```
 //!
 //! Beside the trait stand the types that answers need: `Tally`, `WaitCounts` and `Progress`, and `Actor`, by which
-//! the conditions of a refusal are told of who makes a call.
+//! the conditions of a refusal are told of who makes a call. And what is made or read of a row in the same way
+//! wherever it is kept: `new_callback` makes one of an object, and `slots_of` tells which actions on return a status
+//! has (`NO_ACTIONS`, where it has none).
 
 #![tactic(auto)]
 
 mod actors;
 mod reads;
+mod rows;
 mod tally;
 mod waiting;
 
 pub use actors::Actor;
 pub use reads::Reads;
+pub use rows::{NO_ACTIONS, new_callback, slots_of};
 pub use tally::Tally;
 pub use waiting::{Progress, WaitCounts};
