@@ -8,10 +8,6 @@ use Rattle.tp_model.specs.Support.Remembered.{lives}
 use Rattle.tp_model.specs.Support.Sound.{IsRising}
 use Rattle.tp_model.proofs.Lists.{find_passes}
 
--- the next one, as the part that is lent tells it
-pub next_here : {rows cs : List CallbackRow} → rows ≡ cs → (n : ℕ) {next : Option CallbackRow} → next ≡ find (λ (c : CallbackRow). nat_lt n c.number) rows → find (λ (c : CallbackRow). nat_lt n c.number) cs ≡ next
-next_here is n told = sym (told ∙ ap (λ xs. find (λ (c : CallbackRow). nat_lt n c.number) xs) is)
-
 abbrev pub above : ℕ → List CallbackRow → List CallbackRow
 above n cs = filter (λ (c : CallbackRow). nat_lt n c.number) cs
 

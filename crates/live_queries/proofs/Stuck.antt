@@ -1,5 +1,5 @@
 -- Whether no worker can take a callback, told by the workers' numbers and the pools.
-use Rattle.std.proofs.Common.{◌≡◌, ◌<◌, ◌≤◌, ℕ, Bool, true, false, cond, arith, filter, not, ◌&&◌, ◌||◌, List, [], ◌∷◌, length, Option, Some, None, is_none, refl, sym, ap, ◌∙◌}
+use Rattle.std.proofs.Common.{◌≡◌, ◌<◌, ◌≤◌, ℕ, Bool, true, false, cond, arith, filter, find, not, ◌&&◌, ◌||◌, List, [], ◌∷◌, length, Option, Some, None, is_none, refl, sym, ap, ◌∙◌}
 use Rattle.std.specs.List.{list_all, list_any, range_with_len}
 use Rattle.std.proofs.Math.Bool.{and_assoc, and_comm}
 use Rattle.tp_base.specs.Actors.{is_same_actor}
@@ -11,7 +11,6 @@ use Rattle.tp_model.specs.Stalled.{is_client_stuck, is_free, is_look, is_pool_st
 use Rattle.tp_model.specs.Waits.{wait_of}
 use Rattle.tp_model.specs.World.{World, BegunWait}
 use Rattle.tp_model.proofs.Refusals.{neither}
-use Rattle.live_world.proofs.Covered.{not_found}
 use Rattle.live_queries.specs.Resting.{is_pool_blocked, is_worker_free}
 
 -- ---- the pools
@@ -32,6 +31,10 @@ stalled_by_pools w room =
     by c w p = and_comm (c && w) p ∙ ap (λ b. p && b) (and_comm c w) ∙ sym (and_assoc p w c)
 
 -- ---- a worker that waits for nothing
+
+not_found : {X : Type 0} (p : X → Bool) (xs : List X) → not (list_any p xs) ≡ is_none (find p xs)
+not_found p [] = refl
+not_found p (x ∷ xs) = elim (p x) as (λ b. not (b || list_any p xs) ≡ is_none (cond b (Some x) (find p xs))) [ true ↦ refl | false ↦ not_found p xs ]
 
 none_waits : (w : World) (room : ℕ) (who : Who) (wait : Option BegunWait) → is_none wait ≡ true → false ≡ is_look (end_wait w room who wait)
 none_waits w room who None none = refl

@@ -1,3 +1,2 @@
 pub mod AtWork
-pub mod Actors
 pub mod Resting

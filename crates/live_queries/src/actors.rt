@@ -1,20 +1,6 @@
-//! What the conditions of a refusal ask of an actor.
+//! What the conditions of a refusal ask of an actor, where there is none of this name.
 
-/// What refusals ask of an actor.
-#[derive(Clone, Copy)]
-pub struct Actor {
-    pub exists: bool,
-    /// A client that has finished.
-    pub finished: bool,
-    pub is_worker: bool,
-    /// A worker that runs a callback.
-    pub runs: bool,
-    /// A worker that runs none.
-    pub is_idle: bool,
-    pub is_attached: bool,
-    /// It has a wait begun.
-    pub in_wait: bool,
-}
+use world_reads::Actor;
 
 pub(crate) const NO_CLIENT: Actor = Actor {
     exists: false,
@@ -27,11 +13,6 @@ pub(crate) const NO_CLIENT: Actor = Actor {
 };
 
 pub(crate) const NO_WORKER: Actor = Actor {
-    exists: false,
-    finished: false,
     is_worker: true,
-    runs: false,
-    is_idle: false,
-    is_attached: false,
-    in_wait: false,
+    ..NO_CLIENT
 };

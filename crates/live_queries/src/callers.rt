@@ -1,29 +1,26 @@
 //! Who makes a call, and what of a worker's callback a call asks.
 
 ghost use Rattle.std.specs.Prelude.{◌≡◌, ◌≤◌, length, option_map};
-ghost use Rattle.std.specs.Option.{option_copied};
 ghost use Rattle.tp_base.specs.Actions.{slot as slot_of};
-ghost use Rattle.tp_model.specs.Counts.{callback_of};
 ghost use Rattle.tp_model.specs.Actions.{returning, slots_of as slots_of_status, words_of};
 ghost use Rattle.tp_model.specs.Calls.Groups.{runs_in_group};
 ghost use Rattle.tp_model.specs.Calls.InCallback.{has_asked};
 ghost use Rattle.tp_model.specs.Conditions.{busy_of, idle_of, is_associated as is_associated_by, is_finished, runs_own};
-ghost use Rattle.live_queries.specs.Actors.{actor_of};
+ghost use Rattle.world_reads.specs.Actors.{actor_of};
 ghost use Rattle.live_queries.specs.AtWork.{busy_at};
 
-use crate::actors::{Actor, NO_CLIENT, NO_WORKER};
-use live_world::LiveWorld;
-use live_world::slots::slots_of;
+use crate::actors::{NO_CLIENT, NO_WORKER};
 use tp_base::answers::{ActionKind, SlotWord};
 use tp_base::ids::{GroupId, ObjectId, PoolId, Who};
 use tp_base::plans::{ActionWords, Busy, Idle};
 use tp_base::rows::{Action, CallbackRow, Slots, Status, WorkerRow};
+use world_reads::{Actor, Reads, slots_of};
 
 /// The actor of this name.
-pub fn actor(world: &LiveWorld, who: Who) -> Actor
-    ensures { result ≡ actor_of world.now.world who }
+pub fn actor<W: Reads>(world: &W, who: Who) -> Actor
+    ensures { result ≡ actor_of (W.world_of world.now) who }
 {
-    let in_wait = world.waits().is_begun(who);
+    let in_wait = world.is_in_wait(who);
     let known = match who {
         Who::Client(number) => match world.client(number) {
             None => NO_CLIENT,
@@ -48,8 +45,8 @@ pub fn actor(world: &LiveWorld, who: Who) -> Actor
 }
 
 /// The actor as an attached worker that runs nothing, if it is one.
-pub fn idle(world: &LiveWorld, who: Who) -> Option<Idle>
-    ensures { result ≡ idle_of world.now.world who }
+pub fn idle<W: Reads>(world: &W, who: Who) -> Option<Idle>
+    ensures { result ≡ idle_of (W.world_of world.now) who }
 {
     match who {
         Who::Client(_) => None,
@@ -82,8 +79,8 @@ pub struct AtWork<'a> {
 
 /// The actor as a worker that runs a callback, if it is one.
 #[inline(always)]
-pub fn at_work(world: &LiveWorld, who: Who) -> Option<AtWork<'_>>
-    ensures { option_map busy_at result ≡ busy_of world.now.world who }
+pub fn at_work<W: Reads>(world: &W, who: Who) -> Option<AtWork<'_>>
+    ensures { option_map busy_at result ≡ busy_of (W.world_of world.now) who }
 {
     match who {
         Who::Client(_) => None,
@@ -94,7 +91,7 @@ pub fn at_work(world: &LiveWorld, who: Who) -> Option<AtWork<'_>>
                     callback: Some(callback),
                     persistent,
                 },
-            ) => match callback_of(world, callback) {
+            ) => match world.callback(callback) {
                 Some(callback) => Some(AtWork {
                     worker: number,
                     pool,
@@ -110,8 +107,8 @@ pub fn at_work(world: &LiveWorld, who: Who) -> Option<AtWork<'_>>
 
 /// The same, with the callback copied.
 #[inline(always)]
-pub fn busy(world: &LiveWorld, who: Who) -> Option<Busy>
-    ensures { result ≡ busy_of world.now.world who }
+pub fn busy<W: Reads>(world: &W, who: Who) -> Option<Busy>
+    ensures { result ≡ busy_of (W.world_of world.now) who }
 {
     match at_work(world, who) {
         Some(by) => Some(Busy {
@@ -125,8 +122,8 @@ pub fn busy(world: &LiveWorld, who: Who) -> Option<Busy>
 }
 
 /// Whether the actor runs a callback of the object that was not disassociated from it.
-pub fn runs_own(world: &LiveWorld, who: Who, object: ObjectId) -> bool
-    ensures { result ≡ runs_own world.now.world who object.0 }
+pub fn runs_own<W: Reads>(world: &W, who: Who, object: ObjectId) -> bool
+    ensures { result ≡ runs_own (W.world_of world.now) who object.0 }
 {
     match busy(world, who) {
         None => false,
@@ -135,8 +132,8 @@ pub fn runs_own(world: &LiveWorld, who: Who, object: ObjectId) -> bool
 }
 
 /// Whether the actor runs a callback of the group, disassociated or not.
-pub fn runs_in_group(world: &LiveWorld, who: Who, group: GroupId) -> bool
-    ensures { result ≡ runs_in_group world.now.world who group.0 }
+pub fn runs_in_group<W: Reads>(world: &W, who: Who, group: GroupId) -> bool
+    ensures { result ≡ runs_in_group (W.world_of world.now) who group.0 }
 {
     match busy(world, who) {
         None => false,
@@ -145,8 +142,8 @@ pub fn runs_in_group(world: &LiveWorld, who: Who, group: GroupId) -> bool
 }
 
 /// Whether the callback that the actor runs has asked for an action of this kind.
-pub fn has_asked(world: &LiveWorld, who: Who, kind: ActionKind) -> bool
-    ensures { result ≡ has_asked world.now.world who kind }
+pub fn has_asked<W: Reads>(world: &W, who: Who, kind: ActionKind) -> bool
+    ensures { result ≡ has_asked (W.world_of world.now) who kind }
 {
     match busy(world, who) {
         None => false,
@@ -165,9 +162,9 @@ const NONE_ASKED: ActionWords = ActionWords {
 /// What becomes of the actions on return that a callback of this status asked for, if the actor returns
 /// from it now, and how many callbacks that would make. Walks the waits that it would release.
 #[inline(always)]
-pub fn returned(world: &LiveWorld, who: Who, status: &Status) -> (ActionWords, u32)
-    ensures words { result.0 ≡ words_of world.now.world who (slots_of_status status.now) }
-    ensures count { result.1 ≡ length (returning world.now.world result.0 (slots_of_status status.now)).jobs }
+pub fn returned<W: Reads>(world: &W, who: Who, status: &Status) -> (ActionWords, u32)
+    ensures words { result.0 ≡ words_of (W.world_of world.now) who (slots_of_status status.now) }
+    ensures count { result.1 ≡ length (returning (W.world_of world.now) result.0 (slots_of_status status.now)).jobs }
 {
     match slots_of(*status) {
         Slots {
@@ -181,18 +178,18 @@ pub fn returned(world: &LiveWorld, who: Who, status: &Status) -> (ActionWords, u
 }
 
 // The same of these actions.
-fn performed(world: &LiveWorld, who: Who, slots: &Slots) -> (ActionWords, u32)
-    ensures words { result.0 ≡ words_of world.now.world who slots.now }
-    ensures count { result.1 ≡ length (returning world.now.world result.0 slots.now).jobs }
+fn performed<W: Reads>(world: &W, who: Who, slots: &Slots) -> (ActionWords, u32)
+    ensures words { result.0 ≡ words_of (W.world_of world.now) who slots.now }
+    ensures count { result.1 ≡ length (returning (W.world_of world.now) result.0 slots.now).jobs }
 {
-    let words = world.sources().words(who, slots);
-    let count = world.sources().count_returned(who, slots, &words);
+    let words = world.words(who, slots);
+    let count = world.count_returned(who, slots, &words);
     (words, count)
 }
 
 /// How many clients there are: they have the numbers from 1 on.
-pub(crate) fn clients(world: &LiveWorld) -> u32
-    ensures value { result ≡ length world.now.world.clients }
+pub(crate) fn clients<W: Reads>(world: &W) -> u32
+    ensures value { result ≡ length (W.world_of world.now).clients }
     ensures few { result ≤ 65535 }
 {
     world.is_reachable();
@@ -200,8 +197,8 @@ pub(crate) fn clients(world: &LiveWorld) -> u32
 }
 
 /// How many workers there are: they have the numbers from 1 on.
-pub(crate) fn workers(world: &LiveWorld) -> u32
-    ensures value { result ≡ length world.now.world.workers }
+pub(crate) fn workers<W: Reads>(world: &W) -> u32
+    ensures value { result ≡ length (W.world_of world.now).workers }
     ensures few { result ≤ 65535 }
 {
     world.is_reachable();
@@ -209,20 +206,13 @@ pub(crate) fn workers(world: &LiveWorld) -> u32
 }
 
 /// Whether a client of this number is there and has finished.
-pub(crate) fn has_finished(world: &LiveWorld, number: u32) -> bool
-    ensures { result ≡ is_finished world.now.world (Who.Client number) }
+pub(crate) fn has_finished<W: Reads>(world: &W, number: u32) -> bool
+    ensures { result ≡ is_finished (W.world_of world.now) (Who.Client number) }
 {
     match world.client(number) {
         None => false,
         Some(client) => client.finished,
     }
-}
-
-// The callback of this number, if it lives.
-fn callback_of(world: &LiveWorld, number: u64) -> Option<&CallbackRow>
-    ensures { option_copied result ≡ callback_of world.now.world number }
-{
-    world.callbacks().get(number)
 }
 
 // Whether the callback runs and was not disassociated from its object.

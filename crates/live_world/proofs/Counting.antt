@@ -15,8 +15,9 @@ use Rattle.tp_model.specs.Counts.{attached, has_persistent, idle, is_attached_to
 use Rattle.tp_model.proofs.Lists.{all_along}
 use Rattle.tp_model.proofs.Refusals.{and_false}
 use Rattle.live_world.specs.declared.LiveWorld.TheInside.{Inside}
-use Rattle.live_world.specs.declared.pools.Tally.{Tally}
-use Rattle.live_world.specs.Tally.{tally_of, tally_shown}
+use Rattle.world_reads.specs.declared.tally.Tally.{Tally}
+use Rattle.world_reads.specs.Tally.{tally_of}
+use Rattle.live_world.specs.Tally.{tally_shown}
 use Rattle.live_world.specs.Parts.{shown_worker}
 use Rattle.live_world.specs.View.{shown, IsLiveWorld}
 use Rattle.live_world.specs.Invariant.{IsHome}

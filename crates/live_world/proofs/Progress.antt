@@ -19,9 +19,10 @@ use Rattle.tp_model.proofs.Lists.{find_all}
 use Rattle.tp_model.proofs.Releasing.{that_row}
 use Rattle.tp_model.specs.Calls.Waits.{holds_starved}
 use Rattle.begun_waits.specs.Begun.{closing_by, closing_of, kernel_in, notices_by}
-use Rattle.live_world.specs.Waiting.{held_by, progress_free, progress_left, progress_with, progress_for, progress_in, progress_of}
-use Rattle.live_world.specs.declared.waits.Progress.{Progress}
-use Rattle.live_world.specs.declared.waits.Progress.TheVariants.{NotBegun, Free, Notifies, Starved, Holds, Acquires}
+use Rattle.world_reads.specs.Progress.{progress_left, progress_with, progress_for, progress_in, progress_of}
+use Rattle.world_reads.specs.declared.waiting.Progress.{Progress}
+use Rattle.live_world.specs.Waiting.{held_by, progress_free}
+use Rattle.world_reads.specs.declared.waiting.Progress.TheVariants.{NotBegun, Free, Notifies, Starved, Holds, Acquires}
 use Rattle.tp_base.specs.Actors.{is_same_actor}
 
 -- the actor has begun no wait

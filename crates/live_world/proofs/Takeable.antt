@@ -15,7 +15,7 @@ use Rattle.tp_model.specs.Counts.{has_persistent, is_high, is_low, is_normal, is
 use Rattle.tp_model.specs.Stalled.{is_free}
 use Rattle.tp_model.specs.World.{World}
 use Rattle.live_world.specs.Parts.{shown_worker}
-use Rattle.live_world.specs.Tally.{is_occupied}
+use Rattle.world_reads.specs.Tally.{is_occupied}
 use Rattle.live_world.proofs.Busy.{shows}
 
 -- ---- the pool's persistent worker

@@ -22,8 +22,8 @@ pub(crate) fn open_clients(alloc: Global, clients: u32) -> Result<Vec<ClientRow>
 }
 
 impl LiveWorld {
-    /// The row of a client, if there is one of this number. The first client has the number 1.
-    pub fn client(&self, number: u32) -> Option<ClientRow>
+    // The row of a client, if there is one of this number. The first client has the number 1.
+    pub(crate) fn client(&self, number: u32) -> Option<ClientRow>
         ensures { result ≡ numbered self.now.world.clients number }
     {
         if number == 0 {
@@ -32,26 +32,8 @@ impl LiveWorld {
         self.clients.get(number as usize - 1).copied()
     }
 
-    /// The row of a worker, if there is one of this number. The first worker has the number 1.
-    pub fn worker(&self, number: u32) -> Option<WorkerRow>
-        ensures { result ≡ numbered self.now.world.workers number }
-    {
-        match self.pools.worker(number) {
-            None => None,
-            Some(worker) => Some(WorkerRow {
-                pool: worker.pool,
-                callback: if worker.callback == 0 {
-                    None
-                } else {
-                    Some(worker.callback)
-                },
-                persistent: worker.persistent,
-            }),
-        }
-    }
-
-    /// How many workers run a callback.
-    pub fn busy_workers(&self) -> u32
+    // How many workers run a callback.
+    pub(crate) fn busy_workers(&self) -> u32
         ensures { result ≡ length (filter (λ number. runs_callback self.now.world (Worker number)) (range_with_len 1 (length self.now.world.workers))) }
     {
         self.pools.busy()

@@ -1,4 +1,4 @@
-//! Callbacks: a new one, one that is cancelled, and the slots that they take.
+//! Callbacks: one is made or cancelled, and the slots that they take.
 
 ghost use Rattle.std.specs.Prelude.{◌≡◌, ◌+◌, ◌^◌, ◌<◌, true, None, Some, if◌then◌else◌};
 ghost use Rattle.tp_model.specs.Changes.{with_callback};
@@ -7,35 +7,14 @@ ghost use Rattle.tp_model.specs.Counts.{callback_of, is_operating as is_operatin
 ghost use Rattle.tp_model.specs.Support.Allowed.{IsAllowed};
 ghost use Rattle.tp_model.specs.Waits.{cancelled};
 ghost use Rattle.live_world.specs.Live.{moved, with_world};
-ghost use Rattle.tp_model.specs.Sources.{count_fired, new_callback as new_callback_of};
+ghost use Rattle.tp_model.specs.Sources.{count_fired};
 ghost use Rattle.tp_model.specs.Calls.Timers.{count_expiring};
 ghost use Rattle.tp_model.specs.Calls.WaitObjects.{lacks_slots_after};
 
 use crate::LiveWorld;
-use tp_base::answers::TakeResult;
 use tp_base::ids::{KernelId, ObjectId};
 use tp_base::plans::{Change, Trigger};
-use tp_base::rows::{CallbackRow, ObjectRow, Status};
-
-/// A callback of an object, as the object's environment was when the object was made. It waits for a
-/// worker.
-pub fn new_callback(number: u64, object: ObjectId, row: &ObjectRow, told: TakeResult) -> CallbackRow
-    ensures { result ≡ new_callback_of number object row.now told }
-{
-    CallbackRow {
-        number,
-        object,
-        routine: row.routine,
-        context: row.context,
-        pool: row.env.pool,
-        group: row.env.group,
-        priority: row.env.priority,
-        long: row.env.long,
-        persistent: row.env.persistent,
-        result: told,
-        status: Status::Pending,
-    }
-}
+use tp_base::rows::{CallbackRow, Status};
 
 // The callback waits for a worker.
 pub(crate) fn is_pending(callback: &CallbackRow) -> bool
@@ -59,26 +38,18 @@ pub(crate) fn is_running(callback: &CallbackRow) -> bool
 }
 
 impl LiveWorld {
-    /// The number that the next callback gets.
-    pub fn next_number(&self) -> u64
-        requires { self.now.made < 2 ^ 63 }
-        ensures { result ≡ self.now.made + 1 }
-    {
-        self.made + 1
-    }
-
-    /// Whether there is no slot for so many more callbacks: each callback has one, and so has each
-    /// armed wait.
-    pub fn lacks_slots(&self, count: u32) -> bool
+    // Whether there is no slot for so many more callbacks: each callback has one, and so has each
+    // armed wait.
+    pub(crate) fn lacks_slots(&self, count: u32) -> bool
         ensures { result ≡ lacks_slots_for self.now.world count }
     {
         self.is_reachable();
         self.limits.slots - self.callbacks.len() - self.sources.armed() < count
     }
 
-    /// Whether there would be no slot for what is there once a wait is set: with a kernel object it
-    /// has one, as a callback or as an armed wait, and the one of its old arming is free.
-    pub fn lacks_slots_to_set(
+    // Whether there would be no slot for what is there once a wait is set: with a kernel object it
+    // has one, as a callback or as an armed wait, and the one of its old arming is free.
+    pub(crate) fn lacks_slots_to_set(
         &self,
         object: ObjectId,
         kernel: Option<KernelId>,
@@ -91,11 +62,11 @@ impl LiveWorld {
         self.limits.slots < self.callbacks.len() + self.sources.armed_without(object) + needed
     }
 
-    /// How many callbacks come of what is due, if the clock comes to a moment, or None where there is no
-    /// slot for all of it. An armed wait whose timeout is due has one. Walks what is due, if that isn't
-    /// noted, and once more if there are too few slots for all of it, but enough for all of it less one
-    /// for each armed wait.
-    pub fn count_due(&self, now: u64) -> Option<u32>
+    // How many callbacks come of what is due, if the clock comes to a moment, or None where there is no
+    // slot for all of it. An armed wait whose timeout is due has one. Walks what is due, if that isn't
+    // noted, and once more if there are too few slots for all of it, but enough for all of it less one
+    // for each armed wait.
+    pub(crate) fn count_due(&self, now: u64) -> Option<u32>
         ensures { result ≡ if lacks_slots_for self.now.world (count_expiring self.now.world now) then None else Some (count_fired self.now.world (Trigger.Advance now)) }
     {
         self.is_reachable();

@@ -14,8 +14,6 @@ ghost use Rattle.live_world.specs.Making.{CanMake, IsFired, with_jobs};
 ghost use Rattle.live_world.specs.Performing.{MayAlter, MayPerform, MayPerformAll, MayTrigger};
 
 use crate::LiveWorld;
-use crate::callbacks::new_callback;
-use crate::slots::slots_of;
 use live_callbacks::LiveCallbacks;
 use object_rows::ObjectRows;
 use sources::{Cause, LiveSources};
@@ -23,6 +21,7 @@ use tp_base::answers::{ActionKind, SlotWord, TakeResult};
 use tp_base::ids::{KernelId, ObjectId};
 use tp_base::plans::{ActionWords, Busy, Change, KernelChange, Trigger};
 use tp_base::rows::{Action, Slots};
+use world_reads::{new_callback, slots_of};
 
 // Makes a callback of an object, which waits for a worker. So many were made before, and as many are after as it
 // answers; so do the functions below.

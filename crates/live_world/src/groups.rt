@@ -10,11 +10,11 @@ ghost use Rattle.live_world.specs.Live.{moved};
 
 use crate::LiveWorld;
 use crate::callbacks::{is_operating, is_pending};
-use crate::outstanding::WaitCounts;
 use object_rows::ObjectRows;
 use tp_base::ids::GroupId;
 use tp_base::plans::Change;
 use tp_base::rows::{CallbackRow, WaitTarget};
+use world_reads::WaitCounts;
 
 // How many callbacks are kept of a group, and how many of them are pending.
 #[derive(Clone, Copy)]
@@ -74,9 +74,9 @@ fn least_with(
 }
 
 impl LiveWorld {
-    /// The least of the group's members of which an operation is expected or under way, if there is
-    /// one. Where there is an operation at all it walks the callbacks, and no objects.
-    pub fn first_operating(&self, group: GroupId) -> Option<u32>
+    // The least of the group's members of which an operation is expected or under way, if there is
+    // one. Where there is an operation at all it walks the callbacks, and no objects.
+    pub(crate) fn first_operating(&self, group: GroupId) -> Option<u32>
         ensures { result ≡ first_operating self.now.world group.0 }
     {
         if !self.callbacks.are_operating() {
@@ -92,9 +92,9 @@ impl LiveWorld {
         least
     }
 
-    /// Whether a callback that has no object is outstanding for the group, disassociated or not. Walks
-    /// the callbacks of the group.
-    pub fn has_simple(&self, group: GroupId) -> bool
+    // Whether a callback that has no object is outstanding for the group, disassociated or not. Walks
+    // the callbacks of the group.
+    pub(crate) fn has_simple(&self, group: GroupId) -> bool
         ensures { result ≡ has_simple self.now.world group }
     {
         self.is_reachable();
@@ -124,9 +124,9 @@ impl LiveWorld {
         count
     }
 
-    /// How many callbacks a close of the group would cover, and how many it would cancel before. Walks
-    /// the callbacks of the group.
-    pub fn close_counts(&self, group: GroupId, cancel: bool) -> WaitCounts
+    // How many callbacks a close of the group would cover, and how many it would cancel before. Walks
+    // the callbacks of the group.
+    pub(crate) fn close_counts(&self, group: GroupId, cancel: bool) -> WaitCounts
         ensures covered { result.covered ≡ count_covered self.now.world (WaitTarget.Group group) cancel }
         ensures cancelled { result.cancelled ≡ count_cancelled_by self.now.world (WaitTarget.Group group) cancel }
     {

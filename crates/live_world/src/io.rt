@@ -1,7 +1,6 @@
 //! Operations of I/O objects: a callback expects one, it is issued or given up, and it completes.
 
 ghost use Rattle.std.specs.Prelude.{◌≡◌, ◌+◌, ◌^◌, ◌<◌};
-ghost use Rattle.tp_model.specs.Calls.Io.{issued_of};
 ghost use Rattle.tp_model.specs.Support.Allowed.{IsAllowed};
 ghost use Rattle.live_world.specs.Live.{moved};
 
@@ -12,17 +11,6 @@ use tp_base::plans::{Change, IoStep};
 use tp_base::rows::{CallbackRow, Status};
 
 impl LiveWorld {
-    /// The callback of a number, if its operation is under way.
-    pub fn issued(&self, callback: u64) -> Option<CallbackRow>
-        ensures { result ≡ issued_of self.now.world callback }
-    {
-        let row = self.callbacks.get(callback)?;
-        match row.status {
-            Status::Issued => Some(*row),
-            _ => None,
-        }
-    }
-
     // Makes a callback that expects an operation.
     pub(crate) fn expect_callback(&mut self, callback: CallbackRow)
         requires allowed { IsAllowed (self.old.made + 1) self.old.world (Change.ExpectCallback callback) }

@@ -1,12 +1,13 @@
 //! A live world: what an engine keeps of the thread pool machine's world, seen as the world without
 //! the callbacks that are over and the number of callbacks that were ever made.
 //!
-//! `open` takes all memory. What one part knows, that part answers, which is lent by reference:
-//! `callbacks`, `objects`, `waits` and `sources`. What ties several of them, the world answers itself:
-//! `tally` what is counted of a pool, `wait_counts` and `close_counts` what a wait or a close would cover,
-//! `progress` how far a wait has come, `lacks_slots` and its like whether there is a slot. What is asked
-//! across all of that stands in a crate of its own, live_queries. `apply` makes a change that the world
-//! allows, and is the only call that changes anything.
+//! `open` takes all memory. What is asked of it are the calls of `Reads` (world_reads), as of any other world
+//! that is read. What one part knows, that part answers: the callbacks, the objects, the begun waits, the
+//! sources. What ties several of them, the world answers itself: `tally` what is counted of a pool,
+//! `wait_counts` and `close_counts` what a wait or a close would cover, `progress` how far a wait has come,
+//! `lacks_slots` and its like whether there is a slot. What is asked across all of that stands in a crate of
+//! its own, live_queries. `sources` lends what makes callbacks by itself, and `apply` makes a change that the
+//! world allows, and is the only call that changes anything.
 
 #![tactic(auto)]
 
@@ -30,21 +31,21 @@ use std::marker::Model;
 use tp_base::limits::Limits;
 use tp_base::rows::ClientRow;
 
-pub mod actors;
-pub mod callbacks;
+mod actors;
+mod callbacks;
 mod changes;
 mod closing;
 mod firing;
-pub mod groups;
+mod groups;
 mod io;
 mod kernels;
 mod objects;
 mod opened;
-pub mod outstanding;
-pub mod pools;
+mod outstanding;
+mod pools;
+mod reads;
 mod running;
-pub mod slots;
-pub mod waits;
+mod waits;
 
 /// What is kept of a world.
 #[derive(Drop)]
@@ -108,39 +109,6 @@ impl LiveWorld {
             sources,
             made: 0,
         })
-    }
-
-    /// The limits of the machine: how many there may be of each thing.
-    pub fn limits(&self) -> Limits
-        ensures { result ≡ self.now.world.limits }
-    {
-        self.limits
-    }
-
-    /// The callbacks that live: which is next in a pool, what is outstanding for an object, and which
-    /// expect an operation or have one under way.
-    pub fn callbacks(&self) -> &LiveCallbacks
-        ensures { result.now.rows ≡ self.now.world.callbacks }
-    {
-        &self.callbacks
-    }
-
-    /// The objects and the groups.
-    pub fn objects(&self) -> &ObjectRows
-        ensures objects { result.now.objects ≡ self.now.world.objects }
-        ensures object_limit { result.now.object_limit ≡ self.now.world.limits.objects }
-        ensures groups { result.now.groups ≡ self.now.world.groups }
-        ensures group_limit { result.now.group_limit ≡ self.now.world.limits.groups }
-    {
-        &self.objects
-    }
-
-    /// The waits that actors have begun.
-    pub fn waits(&self) -> &BegunWaits<LiveCallbacks>
-        ensures waits { result.now.waits ≡ self.now.world.waits }
-        ensures limits { result.now.limits ≡ self.now.world.limits }
-    {
-        &self.waits
     }
 
     /// The clock with the timers and timeouts that are set, and the kernel objects with the waits that are

@@ -10,43 +10,28 @@ use crate::LiveWorld;
 use crate::callbacks::{is_pending, is_running};
 use tp_base::ids::ObjectId;
 use tp_base::rows::{CallbackRow, WaitTarget};
+use world_reads::WaitCounts;
 
-/// How many callbacks a wait would cover, and how many it would cancel before.
-#[derive(Clone, Copy)]
-pub struct WaitCounts {
-    pub covered: u32,
-    pub cancelled: u32,
-}
+const NO_COUNTS: WaitCounts = WaitCounts {
+    covered: 0,
+    cancelled: 0,
+};
 
-impl WaitCounts {
-    const NONE: WaitCounts = WaitCounts {
-        covered: 0,
-        cancelled: 0,
-    };
-
-    // One callback more, where those that are pending are cancelled and those that run are covered.
-    fn with(self, callback: &CallbackRow) -> WaitCounts
-        requires covered { self.covered ≤ 65535 }
-        requires cancelled { self.cancelled ≤ 65535 }
-        ensures covered { result.covered ≡ self.covered + (if is_running_callback callback.now then 1 else 0) }
-        ensures cancelled { result.cancelled ≡ self.cancelled + (if is_pending_callback callback.now then 1 else 0) }
-    {
-        WaitCounts {
-            covered: self.covered + u32::from(is_running(callback)),
-            cancelled: self.cancelled + u32::from(is_pending(callback)),
-        }
+// What is counted, and one callback more, where those that are pending are cancelled and those that run are covered.
+fn counted_with(counts: WaitCounts, callback: &CallbackRow) -> WaitCounts
+    requires covered { counts.covered ≤ 65535 }
+    requires cancelled { counts.cancelled ≤ 65535 }
+    ensures covered { result.covered ≡ counts.covered + (if is_running_callback callback.now then 1 else 0) }
+    ensures cancelled { result.cancelled ≡ counts.cancelled + (if is_pending_callback callback.now then 1 else 0) }
+{
+    WaitCounts {
+        covered: counts.covered + u32::from(is_running(callback)),
+        cancelled: counts.cancelled + u32::from(is_pending(callback)),
     }
 }
 
 impl LiveWorld {
     ghost use Rattle.live_world.specs.Waiting.{outstanding_of, pending_of};
-    /// Whether a callback of the object is outstanding.
-    pub fn is_outstanding(&self, object: ObjectId) -> bool
-        ensures { result ≡ nat_lt 0 (count_outstanding (WaitTarget.Object object) self.now.world) }
-    {
-        self.callbacks.first_outstanding(object).is_some()
-    }
-
     // The pending callback of least number. Walks what is outstanding for the object before it.
     pub(crate) fn first_pending(&self, object: ObjectId) -> Option<CallbackRow>
         ensures { result ≡ slice_get (pending_of self.now.world object) 0 }
@@ -69,18 +54,18 @@ impl LiveWorld {
         ensures cancelled { result.cancelled ≡ length (filter is_pending_callback (outstanding_of self.now.world object)) }
     {
         self.is_reachable();
-        let mut count = WaitCounts::NONE;
+        let mut count = NO_COUNTS;
         let mut next = self.callbacks.first_outstanding(object);
         while let Some(callback) = next {
-            count = count.with(callback);
+            count = counted_with(count, callback);
             next = self.callbacks.next_outstanding(callback);
         }
         count
     }
 
-    /// How many callbacks a wait for the object would cover, and how many it would cancel before. With
-    /// cancel it would cover those that run, and what is outstanding for the object is walked to tell them.
-    pub fn wait_counts(&self, object: ObjectId, cancel: bool) -> WaitCounts
+    // How many callbacks a wait for the object would cover, and how many it would cancel before. With
+    // cancel it would cover those that run, and what is outstanding for the object is walked to tell them.
+    pub(crate) fn wait_counts(&self, object: ObjectId, cancel: bool) -> WaitCounts
         ensures covered { result.covered ≡ count_covered self.now.world (WaitTarget.Object object) cancel }
         ensures cancelled { result.cancelled ≡ count_cancelled_by self.now.world (WaitTarget.Object object) cancel }
     {

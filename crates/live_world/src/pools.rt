@@ -16,24 +16,7 @@ use steps::Steps;
 use tp_base::ids::PoolId;
 use tp_base::plans::{Change, Idle, PoolChange};
 use tp_base::rows::{CallbackRow, PoolRow};
-
-/// What is counted of a pool.
-#[derive(Clone, Copy)]
-pub struct Tally {
-    /// How many workers it keeps. That of a closed pool counts as 0.
-    pub minimum: u32,
-    /// How many of its callbacks may run at once.
-    pub maximum: u32,
-    pub pending: u32,
-    pub running: u32,
-    pub attached: u32,
-    /// The attached workers that run nothing.
-    pub idle: u32,
-    /// The attached workers that don't run a callback with the long mark.
-    pub available: u32,
-    /// Its persistent worker runs a callback.
-    pub occupied: bool,
-}
+use world_reads::Tally;
 
 const NOT_MADE: Tally = Tally {
     minimum: 0,
@@ -63,11 +46,11 @@ fn tally_shown(waiting: u32, counts: Counts) -> Tally
 }
 
 impl LiveWorld {
-    ghost use Rattle.live_world.specs.Tally.{tally_of};
+    ghost use Rattle.world_reads.specs.Tally.{tally_of};
 
-    /// What is counted of a pool, whether it was made or not.
+    // What is counted of a pool, whether it was made or not.
     #[inline(always)]
-    pub fn tally(&self, pool: PoolId) -> Tally
+    pub(crate) fn tally(&self, pool: PoolId) -> Tally
         ensures { result ≡ tally_of self.now.world pool.0 }
     {
         match self.pools.counts(pool) {
@@ -91,20 +74,25 @@ impl LiveWorld {
         }
     }
 
-    /// How many pending callbacks of a pool a worker of it may take, who is its persistent worker or isn't.
+    // How many pending callbacks of a pool a worker of it may take, who is its persistent worker or isn't.
     #[inline(always)]
-    pub fn takeable(&self, pool: PoolId, persistent: bool) -> u32
+    pub(crate) fn takeable(&self, pool: PoolId, persistent: bool) -> u32
         ensures { result ≡ takeable_of self.now.world pool.0 persistent }
     {
         self.callbacks
             .takeable(pool, self.takes_all(pool, persistent))
     }
 
-    /// The callback that a worker of the pool takes next, who is its persistent worker or isn't, if it may take
-    /// one. `steps` counts the nodes that are read to find it: two at most, and one where none is persistent that
-    /// is pending.
+    // The callback that a worker of the pool takes next, who is its persistent worker or isn't, if it may take
+    // one. `steps` counts the nodes that are read to find it: two at most, and one where none is persistent that
+    // is pending.
     #[inline(always)]
-    pub fn next(&self, pool: PoolId, persistent: bool, steps: &mut Steps) -> Option<&CallbackRow>
+    pub(crate) fn next(
+        &self,
+        pool: PoolId,
+        persistent: bool,
+        steps: &mut Steps,
+    ) -> Option<&CallbackRow>
         ensures value { option_copied result ≡ next_of self.now.world pool.0 persistent }
         ensures counted { steps.old ≤ steps.new }
         ensures bound { steps.new ≤ steps.old + 2 }
@@ -117,34 +105,12 @@ impl LiveWorld {
             .next(pool, self.takes_all(pool, persistent), steps)
     }
 
-    /// Whether a worker is free: it runs nothing, and isn't the persistent worker of a pool that is open. Walks the
-    /// pools.
-    pub fn is_any_free(&self) -> bool
+    // Whether a worker is free: it runs nothing, and isn't the persistent worker of a pool that is open. Walks the
+    // pools.
+    pub(crate) fn is_any_free(&self) -> bool
         ensures { result ≡ list_any (is_free self.now.world) self.now.world.workers }
     {
         self.pools.is_any_free()
-    }
-
-    /// How many pools were made, the default pool among them, which is also the number that the
-    /// next pool gets.
-    pub fn next_pool(&self) -> u32
-        ensures { result ≡ length self.now.world.pools }
-    {
-        self.pools.pools()
-    }
-
-    /// The row of a pool, if one of this number was made. The default pool has the number 0.
-    pub fn pool(&self, pool: PoolId) -> Option<PoolRow>
-        ensures { result ≡ slice_get self.now.world.pools pool.0 }
-    {
-        match self.pools.counts(pool) {
-            None => None,
-            Some(counts) => Some(PoolRow {
-                minimum: counts.minimum,
-                maximum: counts.maximum,
-                closed: counts.closed,
-            }),
-        }
     }
 
     // Makes a pool.

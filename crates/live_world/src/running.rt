@@ -8,11 +8,11 @@ ghost use Rattle.tp_model.specs.Support.Allowed.{IsAllowed, Runs};
 ghost use Rattle.live_world.specs.Live.{moved, with_world};
 
 use crate::LiveWorld;
-use crate::slots::NO_ACTIONS;
 use steps::Steps;
 use tp_base::answers::ActionKind;
 use tp_base::plans::{Busy, Change, Idle, Mark};
 use tp_base::rows::{Action, CallbackRow, Slots, Status};
+use world_reads::NO_ACTIONS;
 
 // A running callback that is no longer outstanding for its object.
 fn loosened(status: Status) -> Status

@@ -1,12 +1,14 @@
 //! The waits that actors have begun: how far each has come, and how they begin and end.
 
 ghost use Rattle.std.specs.Prelude.{◌≡◌, ℕ, ◌+◌, ◌^◌, ◌<◌, ◌≤◌, ◌&&◌, [], IfSome, None, Some, true, false, filter, find, is_none, length, option_map, slice_get};
+ghost use Rattle.std.specs.List.{range_with_len};
 ghost use Rattle.std.specs.Option.{option_copied};
 ghost use Rattle.tp_base.specs.declared.plans.WaitEnd.TheVariants.{Free};
 ghost use Rattle.tp_base.specs.declared.rows.WaitTarget.TheVariants.{Object};
 ghost use Rattle.tp_model.specs.Changes.{begin_wait};
 ghost use Rattle.tp_model.specs.Waits.{covered_of, is_cancelled_by, is_outstanding_for, wait_of};
 ghost use Rattle.tp_model.specs.Calls.Waits.{is_starved, holds_starved};
+ghost use Rattle.tp_model.specs.Conditions.{is_in_wait};
 ghost use Rattle.tp_model.specs.Counts.{callback_of};
 ghost use Rattle.tp_model.specs.Laws.Entries.{is_among};
 ghost use Rattle.tp_model.specs.Support.Allowed.{IsAllowed, MayBegin};
@@ -25,35 +27,10 @@ use crate::callbacks::{is_pending, is_running};
 use begun_waits::covers::Covers;
 use live_callbacks::LiveCallbacks;
 use sources::LiveSources;
-use tp_base::ids::{KernelId, ObjectId, RoutineId, Who};
+use tp_base::ids::{KernelId, ObjectId, Who};
 use tp_base::plans::{Awaited, Change, WaitEnd};
 use tp_base::rows::{CallbackRow, Status, WaitTarget};
-
-/// How far a wait has come.
-#[derive(Clone, Copy)]
-pub enum Progress {
-    /// The actor has begun none.
-    NotBegun,
-    /// Nothing that it covers is outstanding any more, and it has no notice to give.
-    Free,
-    /// Nothing that it covers is outstanding any more, and it still has this notice to give.
-    Notifies {
-        object: ObjectId,
-        routine: RoutineId,
-        context: u64,
-        cleanup: u64,
-    },
-    /// It holds a callback that waits for a worker, and the history has no room for it to be run.
-    Starved,
-    /// It holds callbacks, the first of which has this number.
-    Holds {
-        callback: u64,
-    },
-    /// It is for this kernel object, and ends when the actor takes that.
-    Acquires {
-        kernel: KernelId,
-    },
-}
+use world_reads::Progress;
 
 // Whether a callback is outstanding for what a wait is for.
 fn is_outstanding(target: WaitTarget, callback: &CallbackRow) -> bool
@@ -156,7 +133,8 @@ pub(crate) fn end_acquire(
 }
 
 impl LiveWorld {
-    ghost use Rattle.live_world.specs.Waiting.{held_by, progress_free, progress_of};
+    ghost use Rattle.live_world.specs.Waiting.{held_by, progress_free};
+    ghost use Rattle.world_reads.specs.Progress.{progress_of};
 
     // Whether a callback is pending, and the history has no room for it to be run.
     fn is_starved(&self, callback: &CallbackRow, room: u64) -> bool
@@ -280,12 +258,19 @@ impl LiveWorld {
         if first <= last { Some(first) } else { None }
     }
 
-    /// How far the actor's wait has come, where the history has this room left. Where that is less
-    /// than 4, it walks what is outstanding for an object up to what is pending, or the callbacks where a
-    /// wait is for a group. Where the wait began with cancel, it looks at those that ran then, of which there are
-    /// no more than workers. Else it walks nothing.
+    // How many workers have a wait begun.
+    pub(crate) fn waiting_workers(&self) -> u32
+        ensures { result ≡ length (filter (λ number. is_in_wait self.now.world (Who.Worker number)) (range_with_len 1 (length self.now.world.workers))) }
+    {
+        self.waits.waiting_workers()
+    }
+
+    // How far the actor's wait has come, where the history has this room left. Where that is less
+    // than 4, it walks what is outstanding for an object up to what is pending, or the callbacks where a
+    // wait is for a group. Where the wait began with cancel, it looks at those that ran then, of which there are
+    // no more than workers. Else it walks nothing.
     #[inline(always)]
-    pub fn progress(&self, who: Who, room: u64) -> Progress
+    pub(crate) fn progress(&self, who: Who, room: u64) -> Progress
         ensures { result ≡ progress_of self.now.world room who }
     {
         let Some((waiter, target)) = self.waits.begun(who) else {

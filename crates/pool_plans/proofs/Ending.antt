@@ -10,14 +10,14 @@ use Rattle.tp_base.specs.declared.rows.WaitTarget.{WaitTarget}
 use Rattle.tp_base.specs.declared.rows.WaitTarget.TheVariants.{Object, Group, Kernel}
 use Rattle.tp_base.specs.declared.plans.Plan.TheVariants.{Looked, Does}
 use Rattle.tp_base.specs.declared.plans.Change.TheVariants as change
-use Rattle.live_world.specs.declared.waits.Progress.TheVariants.{Starved, Holds}
+use Rattle.world_reads.specs.declared.waiting.Progress.TheVariants.{Starved, Holds}
 use Rattle.tp_model.specs.World.{World, BegunWait}
 use Rattle.tp_model.specs.Waits.{held, wait_of}
 use Rattle.tp_model.specs.Calls.Waits.{holds_starved, end_notices, end_held, end_for, end_wait}
 use Rattle.tp_model.specs.Calls.End.{end_refusals, end_unless_stalled}
 use Rattle.tp_model.specs.Conditions.{is_actor, is_finished, is_without_callback}
 use Rattle.tp_model.specs.Refusing.{first_refusal, unless_refused}
-use Rattle.live_world.specs.Waiting.{progress_left, progress_with, progress_for, progress_in, progress_of}
+use Rattle.world_reads.specs.Progress.{progress_left, progress_with, progress_for, progress_in, progress_of}
 use Rattle.pool_plans.specs.Ending.{end_at}
 
 with_left : (w : World) (room : ℕ) (who : Who) (cleanup : ℕ) (notices : List ObjectId) → end_at w room who (progress_left w cleanup notices) ≡ end_unless_stalled w room who (end_notices w who cleanup notices)

@@ -8,8 +8,8 @@ use Rattle.tp_base.specs.declared.plans.WaitEnd.TheVariants as how
 use Rattle.tp_base.specs.declared.plans.Plan.{Plan}
 use Rattle.tp_base.specs.declared.plans.Plan.TheVariants.{Refused, Does}
 use Rattle.tp_base.specs.declared.plans.Change.TheVariants as change
-use Rattle.live_world.specs.declared.waits.Progress.{Progress}
-use Rattle.live_world.specs.declared.waits.Progress.TheVariants.{NotBegun, Free, Notifies, Starved, Holds, Acquires}
+use Rattle.world_reads.specs.declared.waiting.Progress.{Progress}
+use Rattle.world_reads.specs.declared.waiting.Progress.TheVariants.{NotBegun, Free, Notifies, Starved, Holds, Acquires}
 use Rattle.tp_model.specs.World.{World}
 use Rattle.tp_model.specs.Calls.Waits.{end_acquire}
 use Rattle.tp_model.specs.Calls.End.{end_unless_stalled, stall_or_look}

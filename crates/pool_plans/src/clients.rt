@@ -6,15 +6,15 @@ ghost use Rattle.tp_model.specs.Calls.Clients.{finish_plan};
 
 use crate::decisions::{Decision, accept};
 use crate::refusals::first_of;
-use live_world::LiveWorld;
 use tp_base::answers::{Answer, Outcome, Refusal};
 use tp_base::ids::Who;
 use tp_base::plans::Change;
+use world_reads::Reads;
 
 /// A client makes no further call.
 #[tactic(auto, unfolding(tp_model::specs::Calls::Clients::finish_plan))]
-pub fn finish(world: &LiveWorld, who: Who, change: &mut Change, outcome: &mut Outcome) -> Decision
-    ensures { decided result outcome.new change.new ≡ Some (finish_plan world.now.world who) }
+pub fn finish<W: Reads>(world: &W, who: Who, change: &mut Change, outcome: &mut Outcome) -> Decision
+    ensures { decided result outcome.new change.new ≡ Some (finish_plan (W.world_of world.now) who) }
 {
     let actor = live_queries::actor(world, who);
     let refusal = first_of!([

@@ -10,10 +10,10 @@ ghost use Rattle.tp_model.specs.Calls.Groups.{create_group_plan, close_group_pla
 use crate::decisions::{Decision, accept};
 use crate::refusals::{actor_refusal, either, first_of, group_refusal};
 use live_queries::runs_in_group;
-use live_world::LiveWorld;
 use tp_base::answers::{Answer, Outcome, Refusal};
 use tp_base::ids::{GroupId, ObjectId, Who};
 use tp_base::plans::Change;
+use world_reads::Reads;
 
 // The object of this number, or with none object 0.
 fn object_or_none(object: Option<u32>) -> ObjectId
@@ -24,13 +24,13 @@ fn object_or_none(object: Option<u32>) -> ObjectId
 
 /// Makes a group.
 #[tactic(auto, unfolding(tp_model::specs::Calls::Groups::create_group_plan))]
-pub fn create_group(
-    world: &LiveWorld,
+pub fn create_group<W: Reads>(
+    world: &W,
     who: Who,
     change: &mut Change,
     outcome: &mut Outcome,
 ) -> Decision
-    ensures { decided result outcome.new change.new ≡ Some (create_group_plan world.now.world who) }
+    ensures { decided result outcome.new change.new ≡ Some (create_group_plan (W.world_of world.now) who) }
 {
     let refusal = actor_refusal!(
         world,
@@ -52,26 +52,23 @@ pub fn create_group(
 
 /// Closes a group that has no member, and for which no simple callback is outstanding.
 #[tactic(auto, unfolding(tp_model::specs::Calls::Groups::close_group_plan))]
-pub fn close_group(
-    world: &LiveWorld,
+pub fn close_group<W: Reads>(
+    world: &W,
     who: Who,
     group: GroupId,
     change: &mut Change,
     outcome: &mut Outcome,
 ) -> Decision
-    ensures { decided result outcome.new change.new ≡ Some (close_group_plan world.now.world who group) }
+    ensures { decided result outcome.new change.new ≡ Some (close_group_plan (W.world_of world.now) who group) }
 {
     let refusal = group_refusal!(
         world,
         who,
         group,
         [(
-            either(
-                world.objects().first_member(group).is_some(),
-                world.has_simple(group)
-            ),
+            either(world.first_member(group).is_some(), world.has_simple(group)),
             Refusal::HasMembers {
-                object: object_or_none(world.objects().first_member(group))
+                object: object_or_none(world.first_member(group))
             }
         )]
     );
@@ -84,8 +81,8 @@ pub fn close_group(
 /// Releases the members of a group, and begins a wait for its callbacks, those that are pending
 /// cancelled or not. With cancel the wait gives a notice of each member that has a cancel routine.
 #[tactic(auto, unfolding(tp_model::specs::Calls::Groups::begin_close_plan))]
-pub fn begin_close(
-    world: &LiveWorld,
+pub fn begin_close<W: Reads>(
+    world: &W,
     who: Who,
     group: GroupId,
     cancel: bool,
@@ -93,7 +90,7 @@ pub fn begin_close(
     change: &mut Change,
     outcome: &mut Outcome,
 ) -> Decision
-    ensures { decided result outcome.new change.new ≡ Some (begin_close_plan world.now.world who group cancel context) }
+    ensures { decided result outcome.new change.new ≡ Some (begin_close_plan (W.world_of world.now) who group cancel context) }
 {
     let refusal = group_refusal!(
         world,
@@ -113,7 +110,7 @@ pub fn begin_close(
         return Decision::Refused(refusal);
     }
     let counts = world.close_counts(group, cancel);
-    let notices = world.objects().count_notices(group, cancel);
+    let notices = world.count_notices(group, cancel);
     accept(
         change,
         outcome,

@@ -11,15 +11,15 @@ ghost use Rattle.tp_model.specs.Calls.InCallback.{busy_refusals, may_run_long_pl
 use crate::decisions::{Decision, accept};
 use crate::refusals::{either, first_of};
 use live_queries::{busy, has_asked, has_spare};
-use live_world::LiveWorld;
 use tp_base::answers::{ActionKind, Answer, Outcome, Refusal};
 use tp_base::ids::{KernelId, Who};
 use tp_base::plans::{Change, Mark};
 use tp_base::rows::Action;
+use world_reads::Reads;
 
 // Of an actor that must run a callback.
-fn busy_refusal(world: &LiveWorld, who: Who) -> Option<Refusal>
-    ensures { result ≡ first_refusal (busy_refusals world.now.world who) }
+fn busy_refusal<W: Reads>(world: &W, who: Who) -> Option<Refusal>
+    ensures { result ≡ first_refusal (busy_refusals (W.world_of world.now) who) }
 {
     let actor = live_queries::actor(world, who);
     first_of!([
@@ -32,13 +32,13 @@ fn busy_refusal(world: &LiveWorld, who: Who) -> Option<Refusal>
 
 /// A running callback may run long.
 #[tactic(auto, unfolding(tp_model::specs::Calls::InCallback::may_run_long_plan))]
-pub fn may_run_long(
-    world: &LiveWorld,
+pub fn may_run_long<W: Reads>(
+    world: &W,
     who: Who,
     change: &mut Change,
     outcome: &mut Outcome,
 ) -> Decision
-    ensures { decided result outcome.new change.new ≡ Some (may_run_long_plan world.now.world who) }
+    ensures { decided result outcome.new change.new ≡ Some (may_run_long_plan (W.world_of world.now) who) }
 {
     if let Some(refusal) = busy_refusal(world, who) {
         return Decision::Refused(refusal);
@@ -61,13 +61,13 @@ pub fn may_run_long(
 
 /// A running callback is no longer waited for.
 #[tactic(auto, unfolding(tp_model::specs::Calls::InCallback::disassociate_plan))]
-pub fn disassociate(
-    world: &LiveWorld,
+pub fn disassociate<W: Reads>(
+    world: &W,
     who: Who,
     change: &mut Change,
     outcome: &mut Outcome,
 ) -> Decision
-    ensures { decided result outcome.new change.new ≡ Some (disassociate_plan world.now.world who) }
+    ensures { decided result outcome.new change.new ≡ Some (disassociate_plan (W.world_of world.now) who) }
 {
     if let Some(refusal) = busy_refusal(world, who) {
         return Decision::Refused(refusal);
@@ -88,8 +88,8 @@ pub fn disassociate(
 
 /// A running callback leaves something to its return.
 #[tactic(auto, unfolding(tp_model::specs::Calls::InCallback::on_return_plan))]
-pub fn on_return(
-    world: &LiveWorld,
+pub fn on_return<W: Reads>(
+    world: &W,
     who: Who,
     kind: ActionKind,
     kernel: KernelId,
@@ -97,15 +97,15 @@ pub fn on_return(
     change: &mut Change,
     outcome: &mut Outcome,
 ) -> Decision
-    ensures { decided result outcome.new change.new ≡ Some (on_return_plan world.now.world who kind kernel count) }
+    ensures { decided result outcome.new change.new ≡ Some (on_return_plan (W.world_of world.now) who kind kernel count) }
 {
     let actor = live_queries::actor(world, who);
     let refusal = first_of!([
         (
-            either(!actor.exists, !world.sources().is_kernel(kernel)),
+            either(!actor.exists, !world.is_kernel(kernel)),
             Refusal::NoSuch
         ),
-        (!world.sources().is_for(kind, kernel), Refusal::WrongKind),
+        (!world.is_for(kind, kernel), Refusal::WrongKind),
         (actor.finished, Refusal::Released),
         (!actor.runs, Refusal::NotRunning),
         (actor.in_wait, Refusal::InWait),

@@ -8,13 +8,12 @@ ghost use Rattle.tp_model.specs.Calls.Io.{complete_io as complete_io_of, expecti
 use crate::decisions::{Decision, accept};
 use crate::objects::one_callback;
 use crate::refusals::{actor_refusal, either, first_of, object_refusal};
-use live_world::LiveWorld;
-use live_world::callbacks::new_callback;
 use tp_base::answers::{Answer, Outcome, Refusal, TakeResult};
 use tp_base::calls::Kind;
 use tp_base::ids::{ObjectId, Who};
 use tp_base::plans::{Change, IoStep};
 use tp_base::rows::{CallbackRow, ObjectRow, Status};
+use world_reads::{Reads, new_callback};
 
 // A callback that expects an operation. It gets its result as that completes.
 fn expecting(number: u64, object: ObjectId, row: &ObjectRow) -> CallbackRow
@@ -28,15 +27,15 @@ fn expecting(number: u64, object: ObjectId, row: &ObjectRow) -> CallbackRow
 
 /// Announces an operation of an I/O object, and makes the callback that expects it.
 #[tactic(auto, unfolding(tp_model::specs::Calls::Io::start_io_plan))]
-pub fn start_io(
-    world: &LiveWorld,
+pub fn start_io<W: Reads>(
+    world: &W,
     who: Who,
     object: ObjectId,
     change: &mut Change,
     outcome: &mut Outcome,
 ) -> Decision
-    requires { world.now.made < 2 ^ 63 }
-    ensures { decided result outcome.new change.new ≡ Some (start_io_plan world.now.world (world.now.made + 1) who object) }
+    requires { W.made_of world.now < 2 ^ 63 }
+    ensures { decided result outcome.new change.new ≡ Some (start_io_plan (W.world_of world.now) (W.made_of world.now + 1) who object) }
 {
     one_callback!(
         world,
@@ -55,7 +54,7 @@ pub fn start_io(
 // A step with the object's first expecting callback, and the answer that tells its number.
 macro_rules! operate_first {
     ($world:ident, $who:ident, $object:ident, $change:ident, $outcome:ident, $told:ident, $how:expr) => {{
-        let expected = $world.callbacks().first_expected($object);
+        let expected = $world.first_expected($object);
         let refusal = object_refusal!(
             $world,
             $who,
@@ -84,14 +83,14 @@ macro_rules! operate_first {
 
 /// Issues the operation that the object's first expecting callback expects.
 #[tactic(auto, unfolding(tp_model::specs::Calls::Io::issue_io_plan))]
-pub fn issue_io(
-    world: &LiveWorld,
+pub fn issue_io<W: Reads>(
+    world: &W,
     who: Who,
     object: ObjectId,
     change: &mut Change,
     outcome: &mut Outcome,
 ) -> Decision
-    ensures { decided result outcome.new change.new ≡ Some (issue_io_plan world.now.world who object) }
+    ensures { decided result outcome.new change.new ≡ Some (issue_io_plan (W.world_of world.now) who object) }
 {
     operate_first!(
         world,
@@ -106,14 +105,14 @@ pub fn issue_io(
 
 /// The object's first expecting callback expects its operation no more, and never runs.
 #[tactic(auto, unfolding(tp_model::specs::Calls::Io::cancel_io_plan))]
-pub fn cancel_io(
-    world: &LiveWorld,
+pub fn cancel_io<W: Reads>(
+    world: &W,
     who: Who,
     object: ObjectId,
     change: &mut Change,
     outcome: &mut Outcome,
 ) -> Decision
-    ensures { decided result outcome.new change.new ≡ Some (cancel_io_plan world.now.world who object) }
+    ensures { decided result outcome.new change.new ≡ Some (cancel_io_plan (W.world_of world.now) who object) }
 {
     operate_first!(
         world,
@@ -156,8 +155,8 @@ fn complete(
 
 /// Completes an operation that is under way. Its callback is then pending.
 #[tactic(auto, unfolding(tp_model::specs::Calls::Io::complete_io_plan))]
-pub fn complete_io(
-    world: &LiveWorld,
+pub fn complete_io<W: Reads>(
+    world: &W,
     who: Who,
     callback: u64,
     error: u32,
@@ -165,9 +164,9 @@ pub fn complete_io(
     change: &mut Change,
     outcome: &mut Outcome,
 ) -> Decision
-    ensures { decided result outcome.new change.new ≡ Some (complete_io_plan world.now.world who callback error bytes) }
+    ensures { decided result outcome.new change.new ≡ Some (complete_io_plan (W.world_of world.now) who callback error bytes) }
 {
-    let issued = world.issued(callback);
+    let issued = live_queries::issued(world, callback);
     match actor_refusal!(world, who, [(issued.is_none(), Refusal::NoOperation)]) {
         Some(refusal) => Decision::Refused(refusal),
         None => complete(issued, error, bytes, change, outcome),
@@ -177,8 +176,8 @@ pub fn complete_io(
 /// Completes the first operation of an object that is under way, also where the object is released: a
 /// device knows nothing of that.
 #[tactic(auto, unfolding(tp_model::specs::Calls::Io::complete_next_plan))]
-pub fn complete_next(
-    world: &LiveWorld,
+pub fn complete_next<W: Reads>(
+    world: &W,
     who: Who,
     object: ObjectId,
     error: u32,
@@ -186,19 +185,16 @@ pub fn complete_next(
     change: &mut Change,
     outcome: &mut Outcome,
 ) -> Decision
-    ensures { decided result outcome.new change.new ≡ Some (complete_next_plan world.now.world who object error bytes) }
+    ensures { decided result outcome.new change.new ≡ Some (complete_next_plan (W.world_of world.now) who object error bytes) }
 {
-    let issued = world.callbacks().first_issued(object);
+    let issued = world.first_issued(object);
     let actor = live_queries::actor(world, who);
     let refusal = first_of!([
         (
-            either(!actor.exists, !world.objects().is_object(object)),
+            either(!actor.exists, !world.is_object(object)),
             Refusal::NoSuch
         ),
-        (
-            !world.objects().is_object_of(Kind::Io, object),
-            Refusal::WrongKind
-        ),
+        (!world.is_object_of(Kind::Io, object), Refusal::WrongKind),
         (actor.finished, Refusal::Released),
         (actor.is_idle, Refusal::NotRunning),
         (actor.in_wait, Refusal::InWait),

@@ -10,19 +10,19 @@ ghost use Rattle.tp_model.specs.Calls.Kernels.{create_event_plan, create_semapho
 use crate::decisions::{Decision, accept};
 use crate::refusals::{actor_refusal, either, first_of};
 use crate::triggers::{fired, first_number};
-use live_world::LiveWorld;
 use tp_base::answers::{Answer, Outcome, Refusal};
 use tp_base::calls::Lock;
 use tp_base::ids::{KernelId, Who};
 use tp_base::plans::{Change, KernelChange, Trigger};
 use tp_base::rows::KernelState;
+use world_reads::Reads;
 
 // Of a call on a kernel object, which is of the call's kind or not; its own conditions follow.
 macro_rules! kernel_refusal {
     ($world:ident, $who:ident, $kernel:ident, $of_kind:expr, [$($own:tt),* $(,)?]) => {{
         let actor = live_queries::actor($world, $who);
         first_of!([
-            (either(!actor.exists, !$world.sources().is_kernel($kernel)), Refusal::NoSuch),
+            (either(!actor.exists, !$world.is_kernel($kernel)), Refusal::NoSuch),
             (!$of_kind, Refusal::WrongKind),
             (actor.finished, Refusal::Released),
             (actor.is_idle, Refusal::NotRunning),
@@ -33,14 +33,14 @@ macro_rules! kernel_refusal {
 }
 
 // Makes a kernel object of this state.
-fn accept_new(
-    world: &LiveWorld,
+fn accept_new<W: Reads>(
+    world: &W,
     state: KernelState,
     change: &mut Change,
     outcome: &mut Outcome,
 ) -> Decision
     ensures decision { result ≡ Decision.Accepted }
-    ensures outcome { outcome.new ≡ Outcome.Done (Answer.Made (length world.now.world.kernels + 1)) }
+    ensures outcome { outcome.new ≡ Outcome.Done (Answer.Made (length (W.world_of world.now).kernels + 1)) }
     ensures change { change.new ≡ Change.CreateKernel state }
 {
     accept(
@@ -55,15 +55,15 @@ fn accept_new(
 
 /// Makes an event.
 #[tactic(auto, unfolding(tp_model::specs::Calls::Kernels::create_event_plan))]
-pub fn create_event(
-    world: &LiveWorld,
+pub fn create_event<W: Reads>(
+    world: &W,
     who: Who,
     manual: bool,
     signalled: bool,
     change: &mut Change,
     outcome: &mut Outcome,
 ) -> Decision
-    ensures { decided result outcome.new change.new ≡ Some (create_event_plan world.now.world who manual signalled) }
+    ensures { decided result outcome.new change.new ≡ Some (create_event_plan (W.world_of world.now) who manual signalled) }
 {
     match actor_refusal!(
         world,
@@ -82,15 +82,15 @@ pub fn create_event(
 
 /// Makes a semaphore of this count, which is at most its maximum.
 #[tactic(auto, unfolding(tp_model::specs::Calls::Kernels::create_semaphore_plan))]
-pub fn create_semaphore(
-    world: &LiveWorld,
+pub fn create_semaphore<W: Reads>(
+    world: &W,
     who: Who,
     initial: u32,
     maximum: u32,
     change: &mut Change,
     outcome: &mut Outcome,
 ) -> Decision
-    ensures { decided result outcome.new change.new ≡ Some (create_semaphore_plan world.now.world who initial maximum) }
+    ensures { decided result outcome.new change.new ≡ Some (create_semaphore_plan (W.world_of world.now) who initial maximum) }
 {
     let refusal = actor_refusal!(
         world,
@@ -130,15 +130,15 @@ fn lock_made(lock: Lock, who: Who, owned: bool) -> KernelState
 
 /// Makes a mutex or a critical section.
 #[tactic(auto, unfolding(tp_model::specs::Calls::Kernels::create_lock_plan))]
-pub fn create_lock(
-    world: &LiveWorld,
+pub fn create_lock<W: Reads>(
+    world: &W,
     who: Who,
     lock: Lock,
     owned: bool,
     change: &mut Change,
     outcome: &mut Outcome,
 ) -> Decision
-    ensures { decided result outcome.new change.new ≡ Some (create_lock_plan world.now.world who lock owned) }
+    ensures { decided result outcome.new change.new ≡ Some (create_lock_plan (W.world_of world.now) who lock owned) }
 {
     match actor_refusal!(
         world,
@@ -153,22 +153,22 @@ pub fn create_lock(
 /// An event is signalled. Each armed wait that takes it makes a callback, and an actor that waits for
 /// it takes it as its wait ends.
 #[tactic(auto, unfolding(tp_model::specs::Calls::Kernels::set_event_plan))]
-pub fn set_event(
-    world: &LiveWorld,
+pub fn set_event<W: Reads>(
+    world: &W,
     who: Who,
     kernel: KernelId,
     change: &mut Change,
     outcome: &mut Outcome,
 ) -> Decision
-    requires { world.now.made < 2 ^ 63 }
-    ensures { decided result outcome.new change.new ≡ Some (set_event_plan world.now.world (world.now.made + 1) who kernel) }
+    requires { W.made_of world.now < 2 ^ 63 }
+    ensures { decided result outcome.new change.new ≡ Some (set_event_plan (W.world_of world.now) (W.made_of world.now + 1) who kernel) }
 {
-    let refusal = kernel_refusal!(world, who, kernel, world.sources().is_event(kernel), []);
+    let refusal = kernel_refusal!(world, who, kernel, world.is_event(kernel), []);
     if let Some(refusal) = refusal {
         return Decision::Refused(refusal);
     }
     let trigger = Trigger::SetEvent { kernel };
-    let count = world.sources().count_fired(&trigger);
+    let count = world.count_fired(&trigger);
     let first = first_number(world.next_number(), count);
     accept(
         change,
@@ -180,16 +180,16 @@ pub fn set_event(
 
 /// An event is no longer signalled.
 #[tactic(auto, unfolding(tp_model::specs::Calls::Kernels::reset_event_plan))]
-pub fn reset_event(
-    world: &LiveWorld,
+pub fn reset_event<W: Reads>(
+    world: &W,
     who: Who,
     kernel: KernelId,
     change: &mut Change,
     outcome: &mut Outcome,
 ) -> Decision
-    ensures { decided result outcome.new change.new ≡ Some (reset_event_plan world.now.world who kernel) }
+    ensures { decided result outcome.new change.new ≡ Some (reset_event_plan (W.world_of world.now) who kernel) }
 {
-    match kernel_refusal!(world, who, kernel, world.sources().is_event(kernel), []) {
+    match kernel_refusal!(world, who, kernel, world.is_event(kernel), []) {
         Some(refusal) => Decision::Refused(refusal),
         None => accept(
             change,
@@ -206,25 +206,25 @@ pub fn reset_event(
 /// Raises the count of a semaphore, and tells what it was before. Each armed wait that takes the
 /// semaphore makes a callback.
 #[tactic(auto, unfolding(tp_model::specs::Calls::Kernels::release_semaphore_plan))]
-pub fn release_semaphore(
-    world: &LiveWorld,
+pub fn release_semaphore<W: Reads>(
+    world: &W,
     who: Who,
     kernel: KernelId,
     more: u32,
     change: &mut Change,
     outcome: &mut Outcome,
 ) -> Decision
-    requires { world.now.made < 2 ^ 63 }
-    ensures { decided result outcome.new change.new ≡ Some (release_semaphore_plan world.now.world (world.now.made + 1) who kernel more) }
+    requires { W.made_of world.now < 2 ^ 63 }
+    ensures { decided result outcome.new change.new ≡ Some (release_semaphore_plan (W.world_of world.now) (W.made_of world.now + 1) who kernel more) }
 {
-    let previous = world.sources().count_at(kernel);
+    let previous = world.count_at(kernel);
     let refusal = kernel_refusal!(
         world,
         who,
         kernel,
-        world.sources().is_semaphore(kernel),
+        world.is_semaphore(kernel),
         [(
-            world.sources().passes_by(more, kernel),
+            world.passes_by(more, kernel),
             Refusal::OverMaximum { count: previous },
         )]
     );
@@ -235,7 +235,7 @@ pub fn release_semaphore(
         kernel,
         count: more,
     };
-    let count = world.sources().count_fired(&trigger);
+    let count = world.count_fired(&trigger);
     let first = first_number(world.next_number(), count);
     accept(
         change,
@@ -251,22 +251,22 @@ pub fn release_semaphore(
 
 /// Gives back one taking of a mutex or a critical section that the actor owns.
 #[tactic(auto, unfolding(tp_model::specs::Calls::Kernels::release_lock_plan))]
-pub fn release_lock(
-    world: &LiveWorld,
+pub fn release_lock<W: Reads>(
+    world: &W,
     who: Who,
     lock: Lock,
     kernel: KernelId,
     change: &mut Change,
     outcome: &mut Outcome,
 ) -> Decision
-    ensures { decided result outcome.new change.new ≡ Some (release_lock_plan world.now.world who lock kernel) }
+    ensures { decided result outcome.new change.new ≡ Some (release_lock_plan (W.world_of world.now) who lock kernel) }
 {
     let refusal = kernel_refusal!(
         world,
         who,
         kernel,
-        world.sources().is_lock(lock, kernel),
-        [(!world.sources().owns(who, kernel), Refusal::NotOwner)]
+        world.is_lock(lock, kernel),
+        [(!world.owns(who, kernel), Refusal::NotOwner)]
     );
     if let Some(refusal) = refusal {
         return Decision::Refused(refusal);

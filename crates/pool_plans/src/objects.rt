@@ -8,12 +8,12 @@ ghost use Rattle.tp_model.specs.Calls.Objects.{create_plan, close_object_plan};
 
 use crate::decisions::{Decision, accept};
 use crate::refusals::{either, environ_refusal, first_of, object_refusal};
-use live_world::LiveWorld;
 use tp_base::answers::{Answer, Outcome, Refusal};
 use tp_base::calls::{Environ, Kind};
 use tp_base::ids::{ObjectId, RoutineId, Who};
 use tp_base::plans::Change;
 use tp_base::rows::ObjectRow;
+use world_reads::Reads;
 
 /// An object that was just made.
 pub fn new_object(kind: Kind, routine: RoutineId, context: u64, env: Environ) -> ObjectRow
@@ -41,7 +41,7 @@ macro_rules! one_callback {
         if let Some(refusal) = refusal {
             return Decision::Refused(refusal);
         }
-        let Some($row) = $world.objects().object($object) else {
+        let Some($row) = $world.object($object) else {
             return Decision::Refused(Refusal::NoSuch);
         };
         let $number = $world.next_number();
@@ -53,8 +53,8 @@ pub(crate) use one_callback;
 
 /// Makes an object.
 #[tactic(auto, unfolding(tp_model::specs::Calls::Objects::create_plan))]
-pub fn create(
-    world: &LiveWorld,
+pub fn create<W: Reads>(
+    world: &W,
     who: Who,
     kind: Kind,
     routine: RoutineId,
@@ -63,7 +63,7 @@ pub fn create(
     change: &mut Change,
     outcome: &mut Outcome,
 ) -> Decision
-    ensures { decided result outcome.new change.new ≡ Some (create_plan world.now.world who kind routine context env) }
+    ensures { decided result outcome.new change.new ≡ Some (create_plan (W.world_of world.now) who kind routine context env) }
 {
     let refusal = environ_refusal!(
         world,
@@ -87,15 +87,15 @@ pub fn create(
 /// Releases an object, unless an operation of it is expected or under way. It is freed once none of
 /// its callbacks is outstanding.
 #[tactic(auto, unfolding(tp_model::specs::Calls::Objects::close_object_plan))]
-pub fn close_object(
-    world: &LiveWorld,
+pub fn close_object<W: Reads>(
+    world: &W,
     who: Who,
     kind: Kind,
     object: ObjectId,
     change: &mut Change,
     outcome: &mut Outcome,
 ) -> Decision
-    ensures { decided result outcome.new change.new ≡ Some (close_object_plan world.now.world who kind object) }
+    ensures { decided result outcome.new change.new ≡ Some (close_object_plan (W.world_of world.now) who kind object) }
 {
     let refusal = object_refusal!(
         world,
@@ -103,7 +103,7 @@ pub fn close_object(
         kind,
         object,
         [(
-            world.callbacks().is_operating(object),
+            world.is_operating(object),
             Refusal::OperationsOutstanding { io: object }
         )]
     );

@@ -9,20 +9,20 @@ ghost use Rattle.tp_model.specs.Calls.Pools.{pool_refusals, create_pool_plan, ch
 use crate::decisions::{Decision, accept};
 use crate::refusals::{actor_refusal, either, first_of};
 use live_queries::{is_closed_pool, is_pool, is_used, lacks_pool};
-use live_world::LiveWorld;
 use tp_base::answers::{Answer, Outcome, Refusal};
 use tp_base::ids::{PoolId, Who};
 use tp_base::plans::{Change, PoolChange};
+use world_reads::Reads;
 
 /// Makes a pool.
 #[tactic(auto, unfolding(tp_model::specs::Calls::Pools::create_pool_plan))]
-pub fn create_pool(
-    world: &LiveWorld,
+pub fn create_pool<W: Reads>(
+    world: &W,
     who: Who,
     change: &mut Change,
     outcome: &mut Outcome,
 ) -> Decision
-    ensures { decided result outcome.new change.new ≡ Some (create_pool_plan world.now.world who) }
+    ensures { decided result outcome.new change.new ≡ Some (create_pool_plan (W.world_of world.now) who) }
 {
     let refusal = actor_refusal!(world, who, [(lacks_pool(world), Refusal::ObjectLimit)]);
     if let Some(refusal) = refusal {
@@ -39,8 +39,8 @@ pub fn create_pool(
 }
 
 // A pool that is closed or the default pool can't be closed or changed.
-fn pool_refusal(world: &LiveWorld, who: Who, pool: PoolId) -> Option<Refusal>
-    ensures { result ≡ first_refusal (pool_refusals world.now.world who pool.0) }
+fn pool_refusal<W: Reads>(world: &W, who: Who, pool: PoolId) -> Option<Refusal>
+    ensures { result ≡ first_refusal (pool_refusals (W.world_of world.now) who pool.0) }
 {
     let actor = live_queries::actor(world, who);
     first_of!([
@@ -58,14 +58,14 @@ fn pool_refusal(world: &LiveWorld, who: Who, pool: PoolId) -> Option<Refusal>
 
 /// Closes a pool.
 #[tactic(auto, unfolding(tp_model::specs::Calls::Pools::close_pool_plan))]
-pub fn close_pool(
-    world: &LiveWorld,
+pub fn close_pool<W: Reads>(
+    world: &W,
     who: Who,
     pool: PoolId,
     change: &mut Change,
     outcome: &mut Outcome,
 ) -> Decision
-    ensures { decided result outcome.new change.new ≡ Some (close_pool_plan world.now.world who pool) }
+    ensures { decided result outcome.new change.new ≡ Some (close_pool_plan (W.world_of world.now) who pool) }
 {
     match pool_refusal(world, who, pool) {
         Some(refusal) => Decision::Refused(refusal),
@@ -84,15 +84,15 @@ pub fn close_pool(
 }
 
 // Sets one bound of a pool.
-fn set(
-    world: &LiveWorld,
+fn set<W: Reads>(
+    world: &W,
     who: Who,
     pool: PoolId,
     how: PoolChange,
     change: &mut Change,
     outcome: &mut Outcome,
 ) -> Decision
-    ensures { decided result outcome.new change.new ≡ Some (change_pool_plan world.now.world who pool how Answer.Done) }
+    ensures { decided result outcome.new change.new ≡ Some (change_pool_plan (W.world_of world.now) who pool how Answer.Done) }
 {
     match pool_refusal(world, who, pool) {
         Some(refusal) => Decision::Refused(refusal),
@@ -107,15 +107,15 @@ fn set(
 
 /// Sets how many callbacks of a pool may run at once.
 #[tactic(auto, unfolding(tp_model::specs::Calls::Pools::set_maximum_plan))]
-pub fn set_maximum(
-    world: &LiveWorld,
+pub fn set_maximum<W: Reads>(
+    world: &W,
     who: Who,
     pool: PoolId,
     value: u32,
     change: &mut Change,
     outcome: &mut Outcome,
 ) -> Decision
-    ensures { decided result outcome.new change.new ≡ Some (set_maximum_plan world.now.world who pool value) }
+    ensures { decided result outcome.new change.new ≡ Some (set_maximum_plan (W.world_of world.now) who pool value) }
 {
     set(
         world,
@@ -129,15 +129,15 @@ pub fn set_maximum(
 
 /// Sets how many workers a pool keeps.
 #[tactic(auto, unfolding(tp_model::specs::Calls::Pools::set_minimum_plan))]
-pub fn set_minimum(
-    world: &LiveWorld,
+pub fn set_minimum<W: Reads>(
+    world: &W,
     who: Who,
     pool: PoolId,
     value: u32,
     change: &mut Change,
     outcome: &mut Outcome,
 ) -> Decision
-    ensures { decided result outcome.new change.new ≡ Some (set_minimum_plan world.now.world who pool value) }
+    ensures { decided result outcome.new change.new ≡ Some (set_minimum_plan (W.world_of world.now) who pool value) }
 {
     set(
         world,

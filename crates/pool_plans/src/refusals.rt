@@ -31,9 +31,9 @@ macro_rules! object_refusal {
     ($world:ident, $who:ident, $kind:expr, $object:ident, [$($own:tt),* $(,)?]) => {{
         let actor = live_queries::actor($world, $who);
         first_of!([
-            (either(!actor.exists, !$world.objects().is_object($object)), Refusal::NoSuch),
-            (!$world.objects().is_object_of($kind, $object), Refusal::WrongKind),
-            (either(actor.finished, $world.objects().is_released($object)), Refusal::Released),
+            (either(!actor.exists, !$world.is_object($object)), Refusal::NoSuch),
+            (!$world.is_object_of($kind, $object), Refusal::WrongKind),
+            (either(actor.finished, $world.is_released($object)), Refusal::Released),
             (actor.is_idle, Refusal::NotRunning),
             (actor.in_wait, Refusal::InWait),
             $($own),*
@@ -46,12 +46,12 @@ macro_rules! environ_refusal {
     ($world:ident, $who:ident, $env:ident, [$($own:tt),* $(,)?]) => {{
         let actor = live_queries::actor($world, $who);
         let lacks_pool = !live_queries::is_pool($world, $env.pool);
-        let lacks_group = !$world.objects().is_no_group_or_group($env.group);
+        let lacks_group = !$world.is_no_group_or_group($env.group);
         first_of!([
             (either(either(!actor.exists, lacks_pool), lacks_group), Refusal::NoSuch),
             (actor.finished, Refusal::Released),
             (live_queries::is_closed_pool($world, $env.pool), Refusal::PoolClosed),
-            ($world.objects().is_closed_group($env.group), Refusal::GroupClosed),
+            ($world.is_closed_group($env.group), Refusal::GroupClosed),
             (actor.is_idle, Refusal::NotRunning),
             (actor.in_wait, Refusal::InWait),
             $($own),*
@@ -64,9 +64,9 @@ macro_rules! group_refusal {
     ($world:ident, $who:ident, $group:ident, [$($own:tt),* $(,)?]) => {{
         let actor = live_queries::actor($world, $who);
         first_of!([
-            (either(!actor.exists, !$world.objects().is_group($group)), Refusal::NoSuch),
+            (either(!actor.exists, !$world.is_group($group)), Refusal::NoSuch),
             (actor.finished, Refusal::Released),
-            ($world.objects().is_closed_group($group), Refusal::GroupClosed),
+            ($world.is_closed_group($group), Refusal::GroupClosed),
             (actor.is_idle, Refusal::NotRunning),
             (actor.in_wait, Refusal::InWait),
             $($own),*

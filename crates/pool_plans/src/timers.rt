@@ -9,16 +9,16 @@ ghost use Rattle.tp_model.specs.Calls.Timers.{set_timer_plan, set_timer_ex_plan,
 use crate::decisions::{Decision, accept};
 use crate::refusals::{actor_refusal, either, first_of, object_refusal};
 use crate::triggers::{fired, first_number};
-use live_world::LiveWorld;
 use tp_base::answers::{Answer, Outcome, Refusal};
 use tp_base::calls::{CLOCK_END, Kind};
 use tp_base::ids::{ObjectId, Who};
 use tp_base::plans::{Change, Trigger};
+use world_reads::Reads;
 
 // Sets a timer or unsets it, and answers with the first callback of that and how many there are.
 macro_rules! set_with {
     ($world:ident, $who:ident, $object:ident, $trigger:ident, $change:ident, $outcome:ident, |$first:ident, $count:ident| $told:expr) => {{
-        let $count = $world.sources().count_fired(&$trigger);
+        let $count = $world.count_fired(&$trigger);
         let refusal = object_refusal!(
             $world,
             $who,
@@ -36,8 +36,8 @@ macro_rules! set_with {
 
 /// Sets a timer, or unsets it. One that is due at once makes a callback.
 #[tactic(auto, unfolding(tp_model::specs::Calls::Timers::set_timer_plan))]
-pub fn set_timer(
-    world: &LiveWorld,
+pub fn set_timer<W: Reads>(
+    world: &W,
     who: Who,
     object: ObjectId,
     due: Option<i64>,
@@ -46,8 +46,8 @@ pub fn set_timer(
     change: &mut Change,
     outcome: &mut Outcome,
 ) -> Decision
-    requires { world.now.made < 2 ^ 63 }
-    ensures { decided result outcome.new change.new ≡ Some (set_timer_plan world.now.world (world.now.made + 1) who object due period window) }
+    requires { W.made_of world.now < 2 ^ 63 }
+    ensures { decided result outcome.new change.new ≡ Some (set_timer_plan (W.world_of world.now) (W.made_of world.now + 1) who object due period window) }
 {
     let trigger = Trigger::SetTimer {
         object,
@@ -68,8 +68,8 @@ pub fn set_timer(
 
 /// Sets a timer, or unsets it, and tells whether that ended a setting.
 #[tactic(auto, unfolding(tp_model::specs::Calls::Timers::set_timer_ex_plan))]
-pub fn set_timer_ex(
-    world: &LiveWorld,
+pub fn set_timer_ex<W: Reads>(
+    world: &W,
     who: Who,
     object: ObjectId,
     due: Option<i64>,
@@ -78,8 +78,8 @@ pub fn set_timer_ex(
     change: &mut Change,
     outcome: &mut Outcome,
 ) -> Decision
-    requires { world.now.made < 2 ^ 63 }
-    ensures { decided result outcome.new change.new ≡ Some (set_timer_ex_plan world.now.world (world.now.made + 1) who object due period window) }
+    requires { W.made_of world.now < 2 ^ 63 }
+    ensures { decided result outcome.new change.new ≡ Some (set_timer_ex_plan (W.world_of world.now) (W.made_of world.now + 1) who object due period window) }
 {
     let trigger = Trigger::SetTimer {
         object,
@@ -95,7 +95,7 @@ pub fn set_timer_ex(
         change,
         outcome,
         |first, count| Answer::WasSet {
-            was: world.sources().is_set(object),
+            was: world.is_set(object),
             first,
             count,
         }
@@ -104,14 +104,14 @@ pub fn set_timer_ex(
 
 /// Tells whether a timer is set.
 #[tactic(auto, unfolding(tp_model::specs::Calls::Timers::is_timer_set_plan))]
-pub fn is_timer_set(
-    world: &LiveWorld,
+pub fn is_timer_set<W: Reads>(
+    world: &W,
     who: Who,
     object: ObjectId,
     change: &mut Change,
     outcome: &mut Outcome,
 ) -> Decision
-    ensures { decided result outcome.new change.new ≡ Some (is_timer_set_plan world.now.world who object) }
+    ensures { decided result outcome.new change.new ≡ Some (is_timer_set_plan (W.world_of world.now) who object) }
 {
     let refusal = object_refusal!(world, who, Kind::Timer, object, []);
     if let Some(refusal) = refusal {
@@ -121,7 +121,7 @@ pub fn is_timer_set(
         change,
         outcome,
         Answer::Flag {
-            value: world.sources().is_set(object),
+            value: world.is_set(object),
         },
         Change::Keep,
     )
@@ -138,25 +138,25 @@ fn passes_end(now: u64, ticks: u64) -> bool
 /// The clock goes on by so many units of 100 ns. Each timer that is due then makes a callback, and
 /// so does each armed wait whose timeout is.
 #[tactic(auto, unfolding(tp_model::specs::Calls::Timers::advance_plan))]
-pub fn advance(
-    world: &LiveWorld,
+pub fn advance<W: Reads>(
+    world: &W,
     who: Who,
     ticks: u64,
     change: &mut Change,
     outcome: &mut Outcome,
 ) -> Decision
-    requires { world.now.made < 2 ^ 63 }
-    ensures { decided result outcome.new change.new ≡ Some (advance_plan world.now.world (world.now.made + 1) who ticks) }
+    requires { W.made_of world.now < 2 ^ 63 }
+    ensures { decided result outcome.new change.new ≡ Some (advance_plan (W.world_of world.now) (W.made_of world.now + 1) who ticks) }
 {
     let refusal = actor_refusal!(
         world,
         who,
-        [(passes_end(world.sources().now(), ticks), Refusal::ClockEnd)]
+        [(passes_end(world.now(), ticks), Refusal::ClockEnd)]
     );
     if let Some(refusal) = refusal {
         return Decision::Refused(refusal);
     }
-    let now = world.sources().now() + ticks;
+    let now = world.now() + ticks;
     let Some(count) = world.count_due(now) else {
         return Decision::Refused(Refusal::CallbackLimit);
     };

@@ -3,8 +3,8 @@
 ghost use Rattle.std.specs.Prelude.{◌≡◌, ◌+◌, ◌^◌, ◌<◌};
 ghost use Rattle.tp_model.specs.Calls.Timers.{first_of};
 
-use live_world::LiveWorld;
 use tp_base::plans::{Change, Trigger};
+use world_reads::Reads;
 
 /// The first number of so many callbacks, or 0 where there are none.
 pub(crate) fn first_number(next: u64, count: u32) -> u64
@@ -14,9 +14,9 @@ pub(crate) fn first_number(next: u64, count: u32) -> u64
 }
 
 /// The change by which a trigger makes so many callbacks.
-pub(crate) fn fired(world: &LiveWorld, trigger: Trigger, count: u32) -> Change
-    requires { world.now.made < 2 ^ 63 }
-    ensures { result ≡ Change.Fire trigger (world.now.made + 1) count }
+pub(crate) fn fired<W: Reads>(world: &W, trigger: Trigger, count: u32) -> Change
+    requires { W.made_of world.now < 2 ^ 63 }
+    ensures { result ≡ Change.Fire trigger (W.made_of world.now + 1) count }
 {
     Change::Fire {
         trigger,

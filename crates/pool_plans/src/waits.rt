@@ -13,12 +13,11 @@ ghost use Rattle.pool_plans.specs.Ending.{end_at as end_at_of};
 use crate::decisions::{Decision, accept};
 use crate::refusals::{either, first_of, object_refusal};
 use live_queries::{is_stalled, runs_own};
-use live_world::LiveWorld;
-use live_world::waits::Progress;
 use tp_base::answers::{Answer, Look, Outcome, Refusal};
 use tp_base::calls::Kind;
 use tp_base::ids::{KernelId, ObjectId, Who};
 use tp_base::plans::{Awaited, Change, KernelChange, WaitEnd};
+use world_reads::{Progress, Reads};
 
 // Of a call that asks for a kernel object, whatever its kind is.
 macro_rules! acquire_refusal {
@@ -26,7 +25,7 @@ macro_rules! acquire_refusal {
         let actor = live_queries::actor($world, $who);
         first_of!([
             (
-                either(!actor.exists, !$world.sources().is_kernel($kernel)),
+                either(!actor.exists, !$world.is_kernel($kernel)),
                 Refusal::NoSuch
             ),
             (actor.finished, Refusal::Released),
@@ -38,8 +37,8 @@ macro_rules! acquire_refusal {
 
 /// Begins a wait for the callbacks of an object, those that are pending cancelled or not.
 #[tactic(auto, unfolding(tp_model::specs::Calls::Waits::begin_wait_plan))]
-pub fn begin_wait(
-    world: &LiveWorld,
+pub fn begin_wait<W: Reads>(
+    world: &W,
     who: Who,
     kind: Kind,
     object: ObjectId,
@@ -47,7 +46,7 @@ pub fn begin_wait(
     change: &mut Change,
     outcome: &mut Outcome,
 ) -> Decision
-    ensures { decided result outcome.new change.new ≡ Some (begin_wait_plan world.now.world who kind object cancel) }
+    ensures { decided result outcome.new change.new ≡ Some (begin_wait_plan (W.world_of world.now) who kind object cancel) }
 {
     let refusal = object_refusal!(
         world,
@@ -77,14 +76,14 @@ pub fn begin_wait(
 
 /// Begins a wait for a kernel object, which is taken as the wait ends.
 #[tactic(auto, unfolding(tp_model::specs::Calls::Waits::begin_acquire_plan))]
-pub fn begin_acquire(
-    world: &LiveWorld,
+pub fn begin_acquire<W: Reads>(
+    world: &W,
     who: Who,
     kernel: KernelId,
     change: &mut Change,
     outcome: &mut Outcome,
 ) -> Decision
-    ensures { decided result outcome.new change.new ≡ Some (begin_acquire_plan world.now.world who kernel) }
+    ensures { decided result outcome.new change.new ≡ Some (begin_acquire_plan (W.world_of world.now) who kernel) }
 {
     if let Some(refusal) = acquire_refusal!(world, who, kernel) {
         return Decision::Refused(refusal);
@@ -103,19 +102,19 @@ pub fn begin_acquire(
 
 /// Takes a kernel object where the actor may take it now, and tells whether it did. No wait is begun.
 #[tactic(auto, unfolding(tp_model::specs::Calls::Waits::try_acquire_plan))]
-pub fn try_acquire(
-    world: &LiveWorld,
+pub fn try_acquire<W: Reads>(
+    world: &W,
     who: Who,
     kernel: KernelId,
     change: &mut Change,
     outcome: &mut Outcome,
 ) -> Decision
-    ensures { decided result outcome.new change.new ≡ Some (try_acquire_plan world.now.world who kernel) }
+    ensures { decided result outcome.new change.new ≡ Some (try_acquire_plan (W.world_of world.now) who kernel) }
 {
     if let Some(refusal) = acquire_refusal!(world, who, kernel) {
         return Decision::Refused(refusal);
     }
-    if !world.sources().may_take(who, kernel) {
+    if !world.may_take(who, kernel) {
         return accept(change, outcome, Answer::Flag { value: false }, Change::Keep);
     }
     accept(
@@ -149,15 +148,15 @@ fn end_freely(who: Who, change: &mut Change, outcome: &mut Outcome) -> Decision
 // What End comes to where the actor's wait can't end yet: a look, or the end of the wait where the
 // machine is stalled.
 #[inline(always)]
-fn unless_stalled(
-    world: &LiveWorld,
+fn unless_stalled<W: Reads>(
+    world: &W,
     who: Who,
     room: u64,
     seen: Look,
     change: &mut Change,
     outcome: &mut Outcome,
 ) -> Decision
-    ensures { decided result outcome.new change.new ≡ Some (stall_or_look world.now.world room who seen) }
+    ensures { decided result outcome.new change.new ≡ Some (stall_or_look (W.world_of world.now) room who seen) }
 {
     if !is_stalled(world, room) {
         return Decision::Looked(seen);
@@ -174,15 +173,15 @@ fn unless_stalled(
 }
 
 // What End comes to, as far as the actor's wait has come.
-fn end_at(
-    world: &LiveWorld,
+fn end_at<W: Reads>(
+    world: &W,
     who: Who,
     room: u64,
     progress: Progress,
     change: &mut Change,
     outcome: &mut Outcome,
 ) -> Decision
-    ensures { decided result outcome.new change.new ≡ Some (end_at_of world.now.world room who progress) }
+    ensures { decided result outcome.new change.new ≡ Some (end_at_of (W.world_of world.now) room who progress) }
 {
     match progress {
         Progress::NotBegun => Decision::Refused(Refusal::NoWaitBegun),
@@ -215,7 +214,7 @@ fn end_at(
         Progress::Holds { callback } => {
             unless_stalled(world, who, room, Look::NotYet { callback }, change, outcome)
         }
-        Progress::Acquires { kernel } if world.sources().may_take(who, kernel) => end_freely(
+        Progress::Acquires { kernel } if world.may_take(who, kernel) => end_freely(
             who, change, outcome,
         ),
         Progress::Acquires { kernel } => {
@@ -236,14 +235,14 @@ fn end_at(
 /// and one that has notices to give gives the first of them in place of ending. A wait that can't end
 /// yet ends as stalled where nobody in the machine can go on.
 #[tactic(auto, using(crate::proofs::Ending::ends_at, crate::proofs::Ending::refused_last), unfolding(tp_model::specs::Calls::End::end_plan))]
-pub fn end(
-    world: &LiveWorld,
+pub fn end<W: Reads>(
+    world: &W,
     who: Who,
     room: u64,
     change: &mut Change,
     outcome: &mut Outcome,
 ) -> Decision
-    ensures { decided result outcome.new change.new ≡ Some (end_plan world.now.world room who) }
+    ensures { decided result outcome.new change.new ≡ Some (end_plan (W.world_of world.now) room who) }
 {
     let actor = live_queries::actor(world, who);
     let refusal = first_of!([

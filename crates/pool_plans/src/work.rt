@@ -7,24 +7,23 @@ ghost use Rattle.tp_model.specs.Calls.Work.{submit_work_plan, submit_simple_plan
 use crate::decisions::{Decision, accept};
 use crate::objects::{new_object, one_callback};
 use crate::refusals::{either, environ_refusal, first_of, object_refusal};
-use live_world::LiveWorld;
-use live_world::callbacks::new_callback;
 use tp_base::answers::{Answer, Outcome, Refusal, TakeResult};
 use tp_base::calls::{Environ, Kind};
 use tp_base::ids::{ObjectId, RoutineId, Who};
 use tp_base::plans::Change;
+use world_reads::{Reads, new_callback};
 
 /// Makes a callback of a work object.
 #[tactic(auto, unfolding(tp_model::specs::Calls::Work::submit_work_plan))]
-pub fn submit_work(
-    world: &LiveWorld,
+pub fn submit_work<W: Reads>(
+    world: &W,
     who: Who,
     object: ObjectId,
     change: &mut Change,
     outcome: &mut Outcome,
 ) -> Decision
-    requires { world.now.made < 2 ^ 63 }
-    ensures { decided result outcome.new change.new ≡ Some (submit_work_plan world.now.world (world.now.made + 1) who object) }
+    requires { W.made_of world.now < 2 ^ 63 }
+    ensures { decided result outcome.new change.new ≡ Some (submit_work_plan (W.world_of world.now) (W.made_of world.now + 1) who object) }
 {
     one_callback!(
         world,
@@ -42,8 +41,8 @@ pub fn submit_work(
 
 /// Makes a callback without an object.
 #[tactic(auto, unfolding(tp_model::specs::Calls::Work::submit_simple_plan))]
-pub fn submit_simple(
-    world: &LiveWorld,
+pub fn submit_simple<W: Reads>(
+    world: &W,
     who: Who,
     routine: RoutineId,
     context: u64,
@@ -51,8 +50,8 @@ pub fn submit_simple(
     change: &mut Change,
     outcome: &mut Outcome,
 ) -> Decision
-    requires { world.now.made < 2 ^ 63 }
-    ensures { decided result outcome.new change.new ≡ Some (submit_simple_plan world.now.world (world.now.made + 1) who routine context env) }
+    requires { W.made_of world.now < 2 ^ 63 }
+    ensures { decided result outcome.new change.new ≡ Some (submit_simple_plan (W.world_of world.now) (W.made_of world.now + 1) who routine context env) }
 {
     let refusal = environ_refusal!(
         world,

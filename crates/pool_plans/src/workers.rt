@@ -2,9 +2,9 @@
 //! leave.
 
 ghost use Rattle.pool_plans.specs.Decided.{decided};
-ghost use Rattle.std.specs.Prelude.{◌≡◌, ◌+◌, ◌^◌, ◌<◌, ◌≤◌, Some, false};
+ghost use Rattle.std.specs.Prelude.{◌≡◌, ◌+◌, ◌^◌, ◌<◌, ◌≤◌, ◌&&◌, Some, false};
 ghost use Rattle.std.specs.List.{list_any};
-ghost use Rattle.live_callbacks.specs.Callbacks.{is_waiting_persistent};
+ghost use Rattle.tp_model.specs.Counts.{is_pending};
 ghost use Rattle.tp_model.specs.Refusing.{first_refusal};
 ghost use Rattle.tp_model.specs.Calls.Workers.{idle_refusals, attach_plan, detach_plan, take_plan, return_plan};
 
@@ -12,16 +12,16 @@ use crate::decisions::{Decision, accept};
 use crate::refusals::first_of;
 use crate::triggers::first_number;
 use live_queries::{at_work, idle, may_leave, pool_to_join, returned};
-use live_world::LiveWorld;
 use steps::Steps;
 use tp_base::answers::{Answer, Look, Outcome, Refusal};
 use tp_base::ids::{PoolId, Who};
 use tp_base::plans::{Busy, Change};
+use world_reads::Reads;
 
 /// A worker joins a pool that needs one.
 #[tactic(auto, unfolding(tp_model::specs::Calls::Workers::attach_plan))]
-pub fn attach(world: &LiveWorld, who: Who, change: &mut Change, outcome: &mut Outcome) -> Decision
-    ensures { decided result outcome.new change.new ≡ Some (attach_plan world.now.world who) }
+pub fn attach<W: Reads>(world: &W, who: Who, change: &mut Change, outcome: &mut Outcome) -> Decision
+    ensures { decided result outcome.new change.new ≡ Some (attach_plan (W.world_of world.now) who) }
 {
     let actor = live_queries::actor(world, who);
     let refusal = first_of!([
@@ -49,8 +49,8 @@ pub fn attach(world: &LiveWorld, who: Who, change: &mut Change, outcome: &mut Ou
 }
 
 // Of a worker that must be attached and run nothing.
-fn idle_refusal(world: &LiveWorld, who: Who) -> Option<Refusal>
-    ensures { result ≡ first_refusal (idle_refusals world.now.world who) }
+fn idle_refusal<W: Reads>(world: &W, who: Who) -> Option<Refusal>
+    ensures { result ≡ first_refusal (idle_refusals (W.world_of world.now) who) }
 {
     let actor = live_queries::actor(world, who);
     first_of!([
@@ -64,8 +64,8 @@ fn idle_refusal(world: &LiveWorld, who: Who) -> Option<Refusal>
 
 /// A worker leaves its pool.
 #[tactic(auto, unfolding(tp_model::specs::Calls::Workers::detach_plan))]
-pub fn detach(world: &LiveWorld, who: Who, change: &mut Change, outcome: &mut Outcome) -> Decision
-    ensures { decided result outcome.new change.new ≡ Some (detach_plan world.now.world who) }
+pub fn detach<W: Reads>(world: &W, who: Who, change: &mut Change, outcome: &mut Outcome) -> Decision
+    ensures { decided result outcome.new change.new ≡ Some (detach_plan (W.world_of world.now) who) }
 {
     if let Some(refusal) = idle_refusal(world, who) {
         return Decision::Refused(refusal);
@@ -82,17 +82,17 @@ pub fn detach(world: &LiveWorld, who: Who, change: &mut Change, outcome: &mut Ou
 /// A worker begins the next callback of its pool that it may take. `steps` counts the nodes that are read to find
 /// that: two at most, and one where none is persistent that is pending.
 #[tactic(auto, unfolding(tp_model::specs::Calls::Workers::take_plan))]
-pub fn take(
-    world: &LiveWorld,
+pub fn take<W: Reads>(
+    world: &W,
     who: Who,
     change: &mut Change,
     outcome: &mut Outcome,
     steps: &mut Steps,
 ) -> Decision
-    ensures plan { decided result outcome.new change.new ≡ Some (take_plan world.now.world who) }
+    ensures plan { decided result outcome.new change.new ≡ Some (take_plan (W.world_of world.now) who) }
     ensures counted { steps.old ≤ steps.new }
     ensures bound { steps.new ≤ steps.old + 2 }
-    ensures fewer { list_any is_waiting_persistent world.now.world.callbacks ≡ false → steps.new ≤ steps.old + 1 }
+    ensures fewer { list_any (λ c. is_pending c.status && c.persistent) (W.world_of world.now).callbacks ≡ false → steps.new ≤ steps.old + 1 }
 {
     if let Some(refusal) = idle_refusal(world, who) {
         return Decision::Refused(refusal);
@@ -129,14 +129,14 @@ pub fn take(
 /// A worker's callback returns, and its actions are performed. Each armed wait that takes what they
 /// signal makes a callback.
 #[tactic(auto, unfolding(tp_model::specs::Calls::Workers::return_plan))]
-pub fn return_callback(
-    world: &LiveWorld,
+pub fn return_callback<W: Reads>(
+    world: &W,
     who: Who,
     change: &mut Change,
     outcome: &mut Outcome,
 ) -> Decision
-    requires { world.now.made < 2 ^ 63 }
-    ensures { decided result outcome.new change.new ≡ Some (return_plan world.now.world (world.now.made + 1) who) }
+    requires { W.made_of world.now < 2 ^ 63 }
+    ensures { decided result outcome.new change.new ≡ Some (return_plan (W.world_of world.now) (W.made_of world.now + 1) who) }
 {
     let actor = live_queries::actor(world, who);
     let refusal = first_of!([

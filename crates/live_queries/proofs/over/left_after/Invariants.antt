@@ -4,7 +4,7 @@ use Rattle.live_queries.proofs.LeftAfter.{IsSought}
 use Rattle.live_queries.proofs.over.left_after.Given as goal
 
 abbrev pub invariant-loop-callback : goal.invariant-loop-callback
-invariant-loop-callback l = IsSought l.number l.passed l.world.world.callbacks
+invariant-loop-callback g l = IsSought l.number l.passed (g.W.Reads.world_of l.world).callbacks
 
 abbrev pub decreases-loop-callback : goal.decreases-loop-callback
-decreases-loop-callback l = length (above l.passed l.world.world.callbacks)
+decreases-loop-callback g l = length (above l.passed (g.W.Reads.world_of l.world).callbacks)

@@ -4,7 +4,7 @@ use Rattle.tp_model.specs.Waits.{wait_of}
 use Rattle.begun_waits.specs.Begun.{place_of}
 use Rattle.tp_model.specs.World.{BegunWait}
 use Rattle.live_world.specs.Live.{Live}
-use Rattle.live_world.specs.declared.waits.Progress.TheVariants.{Starved, Holds}
+use Rattle.world_reads.specs.declared.waiting.Progress.TheVariants.{Starved, Holds}
 use Rattle.live_world.proofs.Covered.{nowhere, placed}
 use Rattle.live_world.proofs.Progress.{begun_acquires, begun_free, begun_holds, has_begun, no_kernel, not_begun}
 use Rattle.live_world.proofs.LiveWorld.progress.Goals as goal

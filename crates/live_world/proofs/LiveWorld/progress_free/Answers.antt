@@ -1,7 +1,7 @@
 use Rattle.std.proofs.Common.{◌≡◌, ◌+◌, Some, is_some, sym, ap, ap₂, ◌∙◌}
 use Rattle.tp_base.specs.declared.rows.ObjectRow.{ObjectRow}
 use Rattle.begun_waits.specs.declared.Closing.{Closing}
-use Rattle.live_world.specs.declared.waits.Progress.TheVariants.{Notifies}
+use Rattle.world_reads.specs.declared.waiting.Progress.TheVariants.{Notifies}
 use Rattle.live_world.specs.View.{shown}
 use Rattle.live_world.proofs.Progress.{IsNotice, is_notice, no_notice, told_notice}
 use Rattle.live_world.proofs.LiveWorld.progress_free.Goals as goal

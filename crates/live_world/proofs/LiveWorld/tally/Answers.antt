@@ -1,6 +1,7 @@
 use Rattle.std.proofs.Common.{sym, ap, ◌∙◌}
 use Rattle.live_world.specs.Live.{Live}
-use Rattle.live_world.specs.Tally.{tally_of, tally_shown}
+use Rattle.world_reads.specs.Tally.{tally_of}
+use Rattle.live_world.specs.Tally.{tally_shown}
 use Rattle.live_world.proofs.Counting.{is_tally, is_no_tally}
 use Rattle.live_world.proofs.LiveWorld.tally.Goals as goal
 

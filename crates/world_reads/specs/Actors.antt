@@ -2,7 +2,7 @@
 use Rattle.tp_base.specs.declared.ids.Who.{Who}
 use Rattle.tp_model.specs.World.{World}
 use Rattle.tp_model.specs.Conditions.{is_actor, is_finished, is_worker, is_without_callback, runs_callback, is_attached, is_in_wait}
-use Rattle.live_queries.specs.declared.actors.Actor.{Actor}
+use Rattle.world_reads.specs.declared.actors.Actor.{Actor}
 
 abbrev pub actor_of : World → Who → Actor
 actor_of w who = record {

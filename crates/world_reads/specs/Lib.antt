@@ -1,0 +1,3 @@
+pub mod Actors
+pub mod Progress
+pub mod Tally
