@@ -1,7 +1,7 @@
 -- Marks stand one behind another.
-use Rattle.std.proofs.Common.{◌≡◌, ℕ, zero, suc, ◌+◌, ◌≤◌, Bool, true, false, List, [], ◌∷◌, ◌++◌, Option, Some, None, cond, drop, get_or, nat_eq, refl, arith, inl, inr, ◌⊎◌, ◌<◌, if◌then◌else◌, eq-or-lt_of_le}
+use Rattle.std.proofs.Common.{◌≡◌, ℕ, zero, suc, ◌+◌, ◌≤◌, Bool, true, false, List, [], ◌∷◌, ◌++◌, Option, Some, None, cond, drop, get_or, nat_le, refl, arith, ◌<◌, ◌&&◌, if◌then◌else◌}
 use Rattle.std.specs.List.{All, filter}
-use Rattle.std.proofs.lemmas.Bool.{eqb-true}
+use Rattle.std.proofs.lemmas.Bool.{leb-true}
 use Rattle.std.proofs.lemmas.List.Elements.{All-append, All-cons, All-head, All-nil, All-tail, All-weaker}
 use Rattle.script_lines.specs.declared.words.Word.{Word}
 use Rattle.tp_script.specs.declared.marks.Act.{Act}
@@ -9,7 +9,7 @@ use Rattle.tp_script.specs.declared.marks.Mark.{Mark}
 use Rattle.tp_script.specs.declared.numbered.NumberedLine.{NumberedLine}
 use Rattle.tp_script.specs.Kept.{AreFrom, AreRising}
 use Rattle.tp_script.specs.Parsed.{act_of, is_played, marked, marks_from, place_after}
-use Rattle.tp_script.specs.Parts.{is_at}
+use Rattle.tp_script.specs.Parts.{is_within}
 
 abbrev IsFrom : ℕ → Mark → Type 0
 IsFrom place mark = place ≤ mark.place
@@ -18,26 +18,24 @@ IsFrom place mark = place ≤ mark.place
 from_before : (low high : ℕ) (marks : List Mark) → low ≤ high → AreFrom high marks → AreFrom low marks
 from_before low high marks less from = All-weaker (IsFrom high) (IsFrom low) (λ mark there. omega (arith, less, there)) marks from
 
--- of marks behind the place none stands at it
-none_at : (place : ℕ) (marks : List Mark) → AreFrom (suc place) marks → filter (is_at place) marks ≡ []
-none_at place [] from = refl
-none_at place (mark ∷ marks) from =
-    by (nat_eq mark.place place) (λ is. omega (arith, All-head (IsFrom (suc place)) mark marks from, eqb-true mark.place place is)) (none_at place marks (All-tail (IsFrom (suc place)) mark marks from))
+-- of marks behind the last place none stands within
+none_within : (first last : ℕ) (marks : List Mark) → AreFrom (suc last) marks → filter (is_within first last) marks ≡ []
+none_within first last [] from = refl
+none_within first last (mark ∷ marks) from =
+    by (nat_le first mark.place) (nat_le mark.place last) (λ is. omega (arith, All-head (IsFrom (suc last)) mark marks from, leb-true mark.place last is)) (none_within first last marks (All-tail (IsFrom (suc last)) mark marks from))
   where
-    by : (b : Bool) → (b ≡ true → ⊥) → filter (is_at place) marks ≡ [] → cond b (mark ∷ filter (is_at place) marks) (filter (is_at place) marks) ≡ []
-    by true isnt none = absurd (isnt refl)
-    by false isnt none = none
+    by : (a b : Bool) → (b ≡ true → ⊥) → filter (is_within first last) marks ≡ [] → cond (a && b) (mark ∷ filter (is_within first last) marks) (filter (is_within first last) marks) ≡ []
+    by true true isnt none = absurd (isnt refl)
+    by true false isnt none = none
+    by false b isnt none = none
 
--- where marks stand from the place on, and the first not at it, none stands at it
-pub none_further : (marks : List Mark) (index place : ℕ) (d : Mark) → AreRising (drop index marks) → AreFrom place (drop index marks) → (place ≡ (get_or marks index d).place → ⊥) → filter (is_at place) (drop index marks) ≡ []
-none_further [] zero place d rising from apart = refl
-none_further [] (suc index) place d rising from apart = refl
-none_further (mark ∷ marks) (suc index) place d rising from apart = none_further marks index place d rising from apart
-none_further (mark ∷ marks) zero place d rising from apart = by (eq-or-lt_of_le (All-head (IsFrom place) mark marks from))
-  where
-    by : (place ≡ mark.place) ⊎ (place < mark.place) → filter (is_at place) (mark ∷ marks) ≡ []
-    by (inl e) = absurd (apart e)
-    by (inr less) = none_at place (mark ∷ marks) (All-cons (IsFrom (suc place)) mark marks (omega (arith, less)) (from_before (suc place) mark.place marks (omega (arith, less)) rising.0))
+-- and none where the first of them stands behind it
+pub none_further : (marks : List Mark) (index first last : ℕ) (d : Mark) → AreRising (drop index marks) → last < (get_or marks index d).place → filter (is_within first last) (drop index marks) ≡ []
+none_further [] zero first last d rising less = refl
+none_further [] (suc index) first last d rising less = refl
+none_further (mark ∷ marks) (suc index) first last d rising less = none_further marks index first last d rising less
+none_further (mark ∷ marks) zero first last d rising less =
+    none_within first last (mark ∷ marks) (All-cons (IsFrom (suc last)) mark marks (omega (arith, less)) (from_before (suc last) mark.place marks (omega (arith, less)) rising.0))
 
 -- ---- the marks of a script
 

@@ -4,7 +4,7 @@ ghost use Rattle.std.specs.Prelude.{◌≡◌, ◌≤◌, drop, length, take};
 ghost use Rattle.std.specs.List.{filter};
 ghost use Rattle.tp_script.specs.Kept.{AreFrom, AreRising};
 ghost use Rattle.tp_script.specs.Parsed.{act_of, quiet_of};
-ghost use Rattle.tp_script.specs.Parts.{is_at};
+ghost use Rattle.tp_script.specs.Parts.{is_within};
 
 use script_lines::{Line, Meaning, Word};
 
@@ -57,41 +57,41 @@ fn quiet_of(line: &Line) -> Act
     }
 }
 
-/// The marks that stand at a place.
-pub fn marks_at(marks: &[Mark], place: u64) -> &[Mark]
+/// The marks that stand at these places.
+pub fn marks_between(marks: &[Mark], first: u64, last: u64) -> &[Mark]
     requires { AreRising marks.now }
-    ensures { result.now ≡ filter (is_at place) marks.now }
+    ensures { result.now ≡ filter (is_within first last) marks.now }
 {
-    let (_, there) = marks.split_at(count_before(marks, place));
-    let (at, _) = there.split_at(count_at(there, place));
-    at
+    let (_, behind) = marks.split_at(count_before(marks, first, last));
+    let (there, _) = behind.split_at(count_within(behind, first, last));
+    there
 }
 
-// How many marks in front stand before the place.
-fn count_before(marks: &[Mark], place: u64) -> usize
+// How many marks in front stand before the first of these places.
+fn count_before(marks: &[Mark], first: u64, last: u64) -> usize
     requires { AreRising marks.now }
     ensures within { result ≤ length marks.now }
-    ensures same { filter (is_at place) (drop result marks.now) ≡ filter (is_at place) marks.now }
+    ensures same { filter (is_within first last) (drop result marks.now) ≡ filter (is_within first last) marks.now }
     ensures rising { AreRising (drop result marks.now) }
-    ensures behind { AreFrom place (drop result marks.now) }
+    ensures behind { AreFrom first (drop result marks.now) }
 {
     for (index, mark) in marks.iter().enumerate() {
-        if place <= u64::from(mark.place) {
+        if first <= u64::from(mark.place) {
             return index;
         }
     }
     marks.len()
 }
 
-// How many marks in front stand at the place, where none stands before it.
-fn count_at(marks: &[Mark], place: u64) -> usize
+// How many marks in front stand at these places, where none stands before the first.
+fn count_within(marks: &[Mark], first: u64, last: u64) -> usize
     requires rising { AreRising marks.now }
-    requires behind { AreFrom place marks.now }
+    requires behind { AreFrom first marks.now }
     ensures within { result ≤ length marks.now }
-    ensures all { filter (is_at place) marks.now ≡ take result marks.now }
+    ensures all { filter (is_within first last) marks.now ≡ take result marks.now }
 {
     for (index, mark) in marks.iter().enumerate() {
-        if place != u64::from(mark.place) {
+        if last < u64::from(mark.place) {
             return index;
         }
     }

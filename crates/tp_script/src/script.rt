@@ -1,6 +1,6 @@
 //! A script, whose parts are read from its lines.
 
-ghost use Rattle.std.specs.Prelude.{◌≡◌, ◌+◌, ◌<◌, ◌≤◌, ◌^◌, ◌++◌, ◌∷◌, [], IfOk, IfSome, ℕ, List, IfErr, OnOk, if◌then◌else◌, length, vec_len};
+ghost use Rattle.std.specs.Prelude.{◌≡◌, ◌+◌, ◌<◌, ◌≤◌, ◌^◌, ◌++◌, ◌∷◌, [], IfOk, IfSome, ℕ, List, IfErr, OnOk, drop, if◌then◌else◌, length, vec_len};
 ghost use Rattle.std.specs.Option.{option_copied};
 ghost use Rattle.script_lines.specs.declared.fault.ScriptKind.{ScriptKind};
 ghost use Rattle.script_lines.specs.declared.judge.Known.{Known};
@@ -9,7 +9,7 @@ ghost use Rattle.script_lines.specs.Readings.{Goes, IsLineRead, Steps, Trail, fi
 ghost use Rattle.script_lines.specs.Texts.{Spot};
 ghost use Rattle.tp_script.specs.Answers.{IsScriptFault, IsThat};
 ghost use Rattle.tp_script.specs.Parsed.{Parsed, parsed};
-ghost use Rattle.tp_script.specs.Parts.{group_line, line_of, marks_behind, may_refuse, memory_line, object_line};
+ghost use Rattle.tp_script.specs.Parts.{group_line, line_of, marks_behind, may_refuse, memory_line, object_line, operations, part_marks};
 ghost use Rattle.tp_script.specs.Scripts.{IsFaultIn, IsParsed, IsScript, is_local};
 ghost use Rattle.tp_base.specs.Ranges.{IsCallInRange};
 ghost use Rattle.tp_script.specs.Calls.{IsOfPart};
@@ -18,7 +18,7 @@ ghost use Rattle.tp_script.specs.Nexts.{call_at, clients_of, line_after, line_at
 
 use crate::calls::{acts, begins_wait, call_of, calls_in, is_asked, is_met, poll_by};
 use crate::fault::ScriptFault;
-use crate::marks::{Mark, marks_at};
+use crate::marks::{Mark, marks_between};
 use crate::numbered::{Among, NumberedLine, marks_of, numbers_among, played_lines};
 use crate::parse::{is_local, read_lines};
 use crate::routines::{Part, Progress, Routines};
@@ -129,7 +129,24 @@ impl Script {
         ensures { result.now ≡ marks_behind self.now part made }
     {
         match self.place_of(part) {
-            Some(place) => marks_at(&self.marks, u64::from(place) + u64::from(made)),
+            Some(place) => {
+                let place = u64::from(place) + u64::from(made);
+                marks_between(&self.marks, place, place)
+            }
+            None => &[],
+        }
+    }
+
+    /// All marks of a part.
+    pub fn part_marks(&self, part: Part) -> &[Mark]
+        ensures { result.now ≡ part_marks self.now part }
+    {
+        match self.place_of(part) {
+            Some(place) => {
+                let count = operations(lines_behind(&self.lines, place));
+                let place = u64::from(place);
+                marks_between(&self.marks, place, place + count as u64)
+            }
             None => &[],
         }
     }
@@ -274,6 +291,32 @@ fn add_places(
         }
     }
     Ok(places)
+}
+
+// The lines behind so many.
+fn lines_behind(lines: &[Line], place: u32) -> &[Line]
+    ensures { result.now ≡ drop place lines.now }
+{
+    let place = place as usize;
+    if place <= lines.len() {
+        let (_, behind) = lines.split_at(place);
+        behind
+    } else {
+        &[]
+    }
+}
+
+// How many operations stand in front.
+fn operations(lines: &[Line]) -> usize
+    ensures value { result ≡ operations lines.now }
+    ensures few { result ≤ length lines.now }
+{
+    for (index, line) in lines.iter().enumerate() {
+        if !acts(line.head) {
+            return index;
+        }
+    }
+    lines.len()
 }
 
 // The place with this number, counted from 1.
