@@ -21,7 +21,7 @@ use Rattle.script_lines.specs.declared.words.Word.TheVariants as word
 use Rattle.script_lines.specs.Known.{within_section}
 use Rattle.script_lines.specs.Names.{Names}
 use Rattle.script_lines.specs.Texts.{Spot, words_from}
-use Rattle.script_lines.specs.Tokens.{name_of, suits}
+use Rattle.script_lines.specs.Tokens.{name_of, is_wanted}
 use Rattle.script_lines.proofs.TextFacts.{first_word}
 use Rattle.tp_script.specs.Scripts.{words_of}
 use Rattle.script_generator.specs.Scripts.{client_line, last_client, most_of}
@@ -35,10 +35,10 @@ pub record Knows (names : Names) (works : ℕ) : Type 0 where
   pub work : (number : ℕ) → number < works → lookup (bytes_eq (codes "w" ++ decimal (suc number))) names ≡ Some (named sort.Work (suc (suc number)))
 
 -- a name of the whole script stands in each section
-name_token : (known : Known) (wanted : Want) (of : Sort) (number : ℕ) (text : List ℕ) → lookup (bytes_eq text) known.names ≡ Some (named of number) → suits wanted of ≡ true
+name_token : (known : Known) (wanted : Want) (of : Sort) (number : ℕ) (text : List ℕ) → lookup (bytes_eq text) known.names ≡ Some (named of number) → is_wanted known.state wanted (named of number).meaning ≡ true
     → name_of known wanted text ≡ Some (token.Name (named of number).meaning)
 name_token known wanted of number text found suit =
-    ap (λ (o : Option Named). option_and_then (λ (meaning : Meaning). if suits wanted meaning.sort then Some (token.Name meaning) else None) (option_and_then (λ (one : Named). within_section one known.state.section) o)) found
+    ap (λ (o : Option Named). option_and_then (λ (meaning : Meaning). if is_wanted known.state wanted meaning then Some (token.Name meaning) else None) (option_and_then (λ (one : Named). within_section one known.state.section) o)) found
     ∙ ap (λ (b : Bool). if b then Some (token.Name (named of number).meaning) else None) suit
 
 -- a word that has no space in it

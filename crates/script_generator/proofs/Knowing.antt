@@ -10,7 +10,7 @@ use Rattle.script_lines.specs.declared.words.Sort.{Sort}
 use Rattle.script_lines.specs.declared.words.Sort.TheVariants as sort
 use Rattle.script_lines.specs.declared.words.Word.TheVariants as word
 use Rattle.script_lines.specs.Names.{Names}
-use Rattle.script_lines.specs.States.{first_state}
+use Rattle.script_lines.specs.States.{first_state, none_used}
 use Rattle.script_lines.specs.Tokens.{IsNumberToken}
 use Rattle.tp_base.specs.declared.calls.Kind.TheVariants as kind
 use Rattle.tp_base.specs.declared.calls.Priority.{Priority}
@@ -42,7 +42,7 @@ point place names objects made clients begun = record {
   known = record {
     names = names;
     routines = routine_names;
-    state = record { place = place; pools = 1; groups = 1; objects = objects; kernels = 0; routines = made; clients = clients; locals = 0; section = made + clients };
+    state = record { place = place; pools = 1; groups = 1; objects = objects; kernels = 0; routines = made; memories = 0; clients = clients; locals = 0; section = made + clients; used = none_used };
   };
   begun = begun;
 }

@@ -11,6 +11,7 @@ use Rattle.script_lines.specs.Readings.{Goes, IsLineRead, StepsBy, Trail, first_
 use Rattle.script_lines.specs.Texts.{Spot, is_blank, lines_of}
 use Rattle.script_lines.specs.Tokens.{Fits}
 use Rattle.script_lines.proofs.TextFacts.{first_line}
+use Rattle.tp_script.specs.declared.numbered.NumberedLine.{NumberedLine}
 use Rattle.tp_script.specs.Scripts.{Reads, known_after, with_routine, with_routines, words_of}
 
 -- ---- one line, by what each of its words says
@@ -56,27 +57,28 @@ pub record Point : Type 0 where
   pub known : Known
   pub begun : Names
 
--- the text leads from one point to the other, and has so many bytes at most
+-- the text leads from one point to the other by so many lines, and has so many bytes at most
 pub record Leads (before behind : Point) (text : List ℕ) (most : ℕ) : Type 0 where
-  pub reads : (rest : List ℕ) (lines : List Line) (end : Known) → Reads behind.known (lines_of rest) lines end → (all : List Line) × Reads before.known (lines_of (text ++ rest)) all end
+  pub lines : ℕ
+  pub reads : (number : ℕ) (rest : List ℕ) (rows : List NumberedLine) (end : Known) → Reads behind.known (lines + number) (lines_of rest) rows end
+      → (all : List NumberedLine) × Reads before.known number (lines_of (text ++ rest)) all end
   pub begins : (rest : List ℕ) → with_routines before.begun (lines_of (text ++ rest)) ≡ with_routines behind.begun (lines_of rest)
   pub size : length text ≤ most
 
-pub stays : (point : Point) → Leads point point [] 0
-stays point = record { reads = λ rest lines end read. (lines, read); begins = λ rest. refl; size = omega arith }
-
 pub joined : (a b c : Point) (text more : List ℕ) (l m n : ℕ) → Leads a b text l → Leads b c more m → l + m ≤ n → Leads a c (text ++ more) n
 joined a b c text more l m n first second room = record {
-  reads = λ rest lines end read.
-      let behind = second.reads rest lines end read in
-      let whole = first.reads (more ++ rest) behind.0 end behind.1 in
-      (whole.0, subst (λ (t : List ℕ). Reads a.known (lines_of t) whole.0 end) (sym (append_assoc text more rest)) whole.1);
+  lines = second.lines + first.lines;
+  reads = λ number rest rows end read.
+      let there : second.lines + first.lines + number ≡ second.lines + (first.lines + number) = omega arith in
+      let behind = second.reads (first.lines + number) rest rows end (subst (λ (at : ℕ). Reads c.known at (lines_of rest) rows end) there read) in
+      let whole = first.reads number (more ++ rest) behind.0 end behind.1 in
+      (whole.0, subst (λ (t : List ℕ). Reads a.known number (lines_of t) whole.0 end) (sym (append_assoc text more rest)) whole.1);
   begins = λ rest. ap (λ (t : List ℕ). with_routines a.begun (lines_of t)) (append_assoc text more rest) ∙ first.begins (more ++ rest) ∙ second.begins rest;
   size = omega (arith, length-append text more, first.size, second.size, room);
 }
 
 pub wider : (a b : Point) (text : List ℕ) (m n : ℕ) → Leads a b text m → m ≤ n → Leads a b text n
-wider a b text m n leads room = record { reads = leads.reads; begins = leads.begins; size = omega (arith, leads.size, room) }
+wider a b text m n leads room = record { lines = leads.lines; reads = leads.reads; begins = leads.begins; size = omega (arith, leads.size, room) }
 
 some_text : (front rest : List ℕ) (byte : ℕ) → front ++ byte ∷ rest ≡ [] → ⊥
 some_text [] rest byte e = let no_such : ⊥ = cc in no_such
@@ -94,18 +96,20 @@ one_line before behind front spots said most words lacking solid says whole lead
     let end : Trail = told first_trail spots said in
     let read : IsLineRead before.known spots end.line end.name = record { end = end; goes = goes before.known spots said first_trail says; whole = whole; line_of = refl; name_of = refl } in
     record {
-      reads = λ rest lines last reads. (
-        end.line ∷ lines,
-        subst (λ (texts : List (List ℕ)). Reads before.known texts (end.line ∷ lines) last) (sym (split_line front rest lacking))
+      lines = 1;
+      reads = λ number rest rows last reads. (
+        (record { number = number; line = end.line }) ∷ rows,
+        subst (λ (texts : List (List ℕ)). Reads before.known number texts ((record { number = number; line = end.line }) ∷ rows) last) (sym (split_line front rest lacking))
             (inr (
               ap is_blank words ∙ solid,
               (
                 end.line,
                 end.name,
-                lines,
+                rows,
                 subst (λ (of : List Spot). IsLineRead before.known of end.line end.name) (sym words) read,
                 refl,
-                subst (λ (known : Known). Reads known (lines_of rest) lines last) (sym leads) reads,
+                subst (λ (known : Known). Reads known (number + 1) (lines_of rest) rows last) (sym leads)
+                    (subst (λ (at : ℕ). Reads behind.known at (lines_of rest) rows last) (let next : 1 + number ≡ number + 1 = omega arith in next) reads),
               ),
             )),
       );

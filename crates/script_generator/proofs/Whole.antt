@@ -17,7 +17,10 @@ use Rattle.script_lines.specs.States.{state_after}
 use Rattle.script_lines.proofs.HeadFacts.{MayHead, line_head}
 use Rattle.tp_script.specs.declared.script.Opening.TheVariants as opening
 use Rattle.tp_script.specs.Nexts.{clients_of, opens, places_behind}
-use Rattle.tp_script.specs.Scripts.{IsScript, Reads, known_after, with_routines, words_of}
+use Rattle.tp_script.specs.declared.numbered.NumberedLine.{NumberedLine}
+use Rattle.tp_script.specs.Parsed.{is_played, parsed, played}
+use Rattle.tp_script.proofs.ClientFacts.{unplayed}
+use Rattle.tp_script.specs.Scripts.{AreLinesOf, IsScript, Reads, known_after, with_routines, words_of}
 use Rattle.script_generator.specs.Scripts.{Generated, client_line, draw_of, drawn, generated, group_and_timer, last_client, most_of, pool_line, priority_word, routines, with_client, with_clients, with_lines, with_text, with_works, work_line}
 use Rattle.script_generator.proofs.Clients.{Knows, client_closes, client_opens, last_leads, line_leads}
 use Rattle.script_generator.proofs.Knowing.{behind, declared, head_leads, named, names_with, routine_names, routines_lead, start, within, work_leads}
@@ -145,33 +148,50 @@ one_place : (b : Bool) (place : ℕ) → list_length (if b then place ∷ [] els
 one_place true place = refl
 one_place false place = refl
 
-clients_read : (texts : List (List ℕ)) (known end : Known) (lines : List Line) (at : ℕ) → Reads known texts lines end → end.state.clients ≡ known.state.clients + list_length (places_behind opening.Client at lines)
-clients_read [] known end lines at (none, e) = subst (λ (ls : List Line). end.state.clients ≡ known.state.clients + list_length (places_behind opening.Client at ls)) (sym none) (ap (λ (k : Known). k.state.clients) e ∙ sym (add-zero known.state.clients))
-clients_read (text ∷ texts) known end lines at (inl (blank, reads)) = clients_read texts known end lines at reads
-clients_read (text ∷ texts) known end lines at (inr (solid, (line, name, more, read, e, reads))) =
-    subst (λ (ls : List Line). end.state.clients ≡ known.state.clients + list_length (places_behind opening.Client at ls)) (sym e)
-    (omega (
-      arith,
-      clients_read texts (known_after known line name) end more (at + 1) reads,
-      counted known.state line.head (line_head known (words_of text) line name read),
-      one_place (opens opening.Client line.head) (at + 1),
-      length-append (if opens opening.Client line.head then (at + 1) ∷ [] else []) (places_behind opening.Client (at + 1) more),
-    ))
+abbrev one_if : Bool → ℕ
+one_if opened = if opened then 1 else 0
+
+clients_read : (texts : List (List ℕ)) (known end : Known) (number : ℕ) (rows : List NumberedLine) (at : ℕ) → Reads known number texts rows end
+    → end.state.clients ≡ known.state.clients + list_length (places_behind opening.Client at (played rows))
+clients_read [] known end number rows at (none, e) = subst (λ (rs : List NumberedLine). end.state.clients ≡ known.state.clients + list_length (places_behind opening.Client at (played rs))) (sym none) (ap (λ (k : Known). k.state.clients) e ∙ sym (add-zero known.state.clients))
+clients_read (text ∷ texts) known end number rows at (inl (blank, reads)) = clients_read texts known end (number + 1) rows at reads
+clients_read (text ∷ texts) known end number rows at (inr (solid, (line, name, more, read, e, reads))) =
+    subst (λ (rs : List NumberedLine). end.state.clients ≡ known.state.clients + list_length (places_behind opening.Client at (played rs))) (sym e)
+    (by (λ next. clients_read texts (known_after known line name) end (number + 1) more next reads) (is_played line.head) refl)
+  where
+    same : (state_after known.state line.head).clients ≡ known.state.clients + (if opens opening.Client line.head then 1 else 0)
+    same = counted known.state line.head (line_head known (words_of text) line name read)
+
+    by : ((next : ℕ) → end.state.clients ≡ (state_after known.state line.head).clients + list_length (places_behind opening.Client next (played more))) → (b : Bool) → is_played line.head ≡ b
+        → end.state.clients ≡ known.state.clients + list_length (places_behind opening.Client at ((if b then line ∷ [] else []) ++ played more))
+    by further true is =
+        omega (
+          arith,
+          further (at + 1),
+          same,
+          one_place (opens opening.Client line.head) (at + 1),
+          length-append (if opens opening.Client line.head then (at + 1) ∷ [] else []) (places_behind opening.Client (at + 1) (played more)),
+        )
+    by further false is =
+        let none = ap one_if (unplayed line.head is) in
+        omega (arith, further at, same, none)
 
 -- ---- a text that leads from the first line to behind the fourth client
 
 script_of : (text : List ℕ) (more most : ℕ) → Leads start (ended more) text most → (lines : List Line) × IsScript text lines × (clients_of lines ≡ 5)
 script_of text more most leads =
-    let read = leads.reads [] [] (ended more).known (refl, refl) in
+    let read = leads.reads 1 [] [] (ended more).known (refl, refl) in
     let begun : with_routines [] (lines_of text) ≡ routine_names = ap (λ (t : List ℕ). with_routines [] (lines_of t)) (sym (append-nil text)) ∙ leads.begins [] in
-    let reads : Reads start.known (lines_of text) read.0 (ended more).known = subst (λ (t : List ℕ). Reads start.known (lines_of t) read.0 (ended more).known) (append-nil text) read.1 in (
-      read.0,
-      record {
-        end = (ended more).known;
-        reads = subst (λ (names : Names). Reads (record { names = []; routines = names; state = first_state }) (lines_of text) read.0 (ended more).known) (sym begun) reads;
-        closed = refl;
-      },
-      omega (arith, clients_read (lines_of text) start.known (ended more).known read.0 0 reads),
+    let reads : Reads start.known 1 (lines_of text) read.0 (ended more).known = subst (λ (t : List ℕ). Reads start.known 1 (lines_of t) read.0 (ended more).known) (append-nil text) read.1 in
+    let all : AreLinesOf text read.0 =
+    record {
+      end = (ended more).known;
+      reads = subst (λ (names : Names). Reads (record { names = []; routines = names; state = first_state }) 1 (lines_of text) read.0 (ended more).known) (sym begun) reads;
+      closed = refl;
+    } in (
+      played read.0,
+      (parsed read.0, (read.0, all, refl), refl),
+      omega (arith, clients_read (lines_of text) start.known (ended more).known 1 read.0 0 reads),
     )
 
 pub generated_script : (number length : ℕ) → 1 ≤ length → length ≤ 10000 → (lines : List Line) × IsScript (generated number length) lines × (clients_of lines ≡ 5)

@@ -9,6 +9,8 @@ use Rattle.script_lines.specs.declared.line.Meaning.{Meaning}
 use Rattle.script_lines.specs.declared.line.Token.{Token}
 use Rattle.script_lines.specs.declared.line.Token.TheVariants as token
 use Rattle.script_lines.specs.declared.names.Named.{Named}
+use Rattle.script_lines.specs.declared.state.Place.{Place}
+use Rattle.script_lines.specs.declared.state.Place.TheVariants.{InRoutine}
 use Rattle.script_lines.specs.declared.state.State.{State}
 use Rattle.script_lines.specs.declared.words.Class.{Class}
 use Rattle.script_lines.specs.declared.words.Class.TheVariants as class
@@ -25,15 +27,15 @@ use Rattle.script_lines.specs.Known.{found_in, is_standing}
 use Rattle.script_lines.specs.Lines.{form_of, put, put_by_sort, put_word}
 use Rattle.script_lines.specs.Readings.{Goes, IsLineRead, StepsBy, Trail, first_trail}
 use Rattle.script_lines.specs.Shapes.{all_words, class_of, text_of_word}
-use Rattle.script_lines.specs.States.{count_of, limit_of}
+use Rattle.script_lines.specs.States.{count_of, is_in_routine, is_inside, limit_of}
 use Rattle.script_lines.specs.Texts.{Spot, is_name}
-use Rattle.script_lines.specs.Tokens.{FitsForm, armed_of, choice_of, fresh_of, has_room, is_at, is_conditional, is_head, is_repeated, may_stand, name_of, suits, token_of_word, word_at}
+use Rattle.script_lines.specs.Tokens.{FitsForm, armed_of, choice_of, fresh_of, has_room, is_at, is_bare, is_conditional, is_head, is_repeated, is_repeated_tried, is_tried, is_wanted, may_stand, name_of, token_of_word, word_at}
 
--- there is room for what the word begins, and it may begin a line here or be repeated; `done` stands for a line that says nothing yet
+-- there is room for what the word begins, and it may begin a line here, or this is within a routine or a client; `done` stands for a line that says nothing yet
 abbrev pub MayHead : State → Word → Type 0
 MayHead state head =
     (head ≡ word.Done)
-    ⊎ ((has_room state head ≡ true) × ((is_head state.place (class_of head) ≡ true) ⊎ (is_repeated state.place (class_of head) ≡ true)))
+    ⊎ ((has_room state head ≡ true) × ((is_head state.place (class_of head) ≡ true) ⊎ (is_inside state.place ≡ true)))
 
 -- what a word says of the head
 abbrev SaysHead : State → Token → Type 0
@@ -52,6 +54,10 @@ both_true : (a b : Bool) → (a && b) ≡ true → b ≡ true
 both_true true b e = e
 both_true false b e = let no_such : ⊥ = cc in absurd no_such
 
+own_inside : (place : Place) → is_in_routine place ≡ true → is_inside place ≡ true
+own_inside InRoutine stands = refl
+own_inside _ stands = let no_such : ⊥ = cc in absurd no_such
+
 module _ (state : State) where
   of_some : (a b : Token) → Some a ≡ Some b → SaysHead state a → SaysHead state b
   of_some a b e says = subst (SaysHead state) (let same : a ≡ b = cc in same) says
@@ -59,16 +65,45 @@ module _ (state : State) where
   of_none : (said : Token) → None ≡ Some said → SaysHead state said
   of_none said e = let no_such : ⊥ = cc in absurd no_such
 
-  -- what may stand behind a condition may be repeated
-  repeated : (of : Class) → is_conditional state.place of ≡ true → is_repeated state.place of ≡ true
+  -- what stands behind a head stands within a routine or a client
+  repeated : (of : Class) → is_repeated state.place of ≡ true → is_inside state.place ≡ true
   repeated class.Operation stands = stands
-  repeated class.Own stands = stands
+  repeated class.Condition stands = stands
+  repeated class.RepeatedTry stands = stands
+  repeated class.Own stands = own_inside state.place stands
   repeated _ stands = let no_such : ⊥ = cc in absurd no_such
+
+  conditional : (of : Class) → is_conditional state.place of ≡ true → is_inside state.place ≡ true
+  conditional class.Operation stands = stands
+  conditional class.ConditionalTry stands = stands
+  conditional class.Own stands = own_inside state.place stands
+  conditional _ stands = let no_such : ⊥ = cc in absurd no_such
+
+  tried : (of : Class) → is_tried state.place of ≡ true → is_inside state.place ≡ true
+  tried class.Operation stands = stands
+  tried class.Making stands = stands
+  tried class.TriedCondition stands = stands
+  tried class.Own stands = own_inside state.place stands
+  tried _ stands = let no_such : ⊥ = cc in absurd no_such
+
+  repeated_tried : (of : Class) → is_repeated_tried state.place of ≡ true → is_inside state.place ≡ true
+  repeated_tried class.Operation stands = stands
+  repeated_tried class.TriedCondition stands = stands
+  repeated_tried class.Own stands = own_inside state.place stands
+  repeated_tried _ stands = let no_such : ⊥ = cc in absurd no_such
+
+  bare : (of : Class) → is_bare state.place of ≡ true → is_inside state.place ≡ true
+  bare class.Operation stands = stands
+  bare class.Own stands = own_inside state.place stands
+  bare _ stands = let no_such : ⊥ = cc in absurd no_such
 
   said_head : (part : Field) (head : Word) → has_room state head ≡ true → may_stand state.place part (class_of head) ≡ true → SaysHead state (token_of_word part head)
   said_head field.Head head room stands = inr (room, inl stands)
-  said_head field.Repeated head room stands = inr (room, inr stands)
-  said_head field.Conditional head room stands = inr (room, inr (repeated (class_of head) stands))
+  said_head field.Repeated head room stands = inr (room, inr (repeated (class_of head) stands))
+  said_head field.Conditional head room stands = inr (room, inr (conditional (class_of head) stands))
+  said_head field.Tried head room stands = inr (room, inr (tried (class_of head) stands))
+  said_head field.RepeatedTried head room stands = inr (room, inr (repeated_tried (class_of head) stands))
+  said_head field.Bare head room stands = inr (room, inr (bare (class_of head) stands))
   said_head _ head room stands = tt
 
   chosen_head : (part : Field) (found : Option Word) (said : Token) → ((head : Word) → found ≡ Some head → may_stand state.place part (class_of head) ≡ true)
@@ -102,9 +137,9 @@ module _ (state : State) where
       of_meaning meaning true h = of_some (token.Name meaning) said h tt
       of_meaning meaning false h = of_none said h
 
-      by : (found : Option Meaning) → option_and_then (λ meaning. if suits wanted meaning.sort then Some (token.Name meaning) else None) found ≡ Some said → SaysHead state said
+      by : (found : Option Meaning) → option_and_then (λ meaning. if is_wanted known.state wanted meaning then Some (token.Name meaning) else None) found ≡ Some said → SaysHead state said
       by None h = of_none said h
-      by (Some meaning) h = of_meaning meaning (suits wanted meaning.sort) h
+      by (Some meaning) h = of_meaning meaning (is_wanted known.state wanted meaning) h
 
   armed_head : (known : Known) (text : List ℕ) (said : Token) → armed_of known text ≡ Some said → SaysHead state said
   armed_head known text said e = by (bytes_eq text (codes "none")) e

@@ -1,5 +1,5 @@
 -- What the words of a line say, and what may stand behind each.
-use Rattle.std.specs.Prelude.{ℕ, Bool, true, false, List, [], ◌∷◌, None, nat_eq, nat_le, nat_lt, if◌then◌else◌}
+use Rattle.std.specs.Prelude.{ℕ, Bool, true, false, List, [], ◌∷◌, None, nat_eq, nat_le, nat_lt, ◌||◌, if◌then◌else◌}
 use Rattle.tp_base.specs.declared.calls.Kind.{Kind}
 use Rattle.tp_base.specs.declared.calls.Kind.TheVariants as kind
 use Rattle.tp_base.specs.declared.calls.Priority.TheVariants as priority
@@ -47,6 +47,7 @@ blank = record {
   signalled = false;
   maximum = false;
   minimum = false;
+  may_refuse = false;
 }
 
 abbrev pub is_times : Word → Bool
@@ -61,18 +62,31 @@ count_of_repeats line = if is_times line.head then (if nat_le line.number 10000 
 abbrev pub condition_by : Line → Word → Condition
 condition_by line word.If = If line.kernel.number
 condition_by line word.Unless = Unless line.kernel.number
+condition_by line word.TriedIf = If line.kernel.number
+condition_by line word.TriedUnless = Unless line.kernel.number
 condition_by line _ = line.condition
 
 abbrev pub condition_of : Line → Condition
 condition_of line = condition_by line line.head
 
+abbrev pub is_try : Word → Bool
+is_try word.Try = true
+is_try word.RepeatedTry = true
+is_try word.ConditionalTry = true
+is_try _ = false
+
+-- whether the operation may be refused: `try` stands before it
+abbrev pub may_refuse_of : Line → Bool
+may_refuse_of line = line.may_refuse || is_try line.head
+
 abbrev pub kind_in : Word → Kind → Kind
 kind_in (word.Object kind) before = kind
 kind_in _ before = before
 
--- what the line is; behind `times` and its count, and behind a condition, what is made; the operation has a kernel object of its own
+-- what the line is; behind `times` and its count, behind a condition and behind `try`, what is made; the operation has a kernel object of its own
 abbrev pub with_head : Line → Word → Line
-with_head line head = record line { head = head; kind = kind_in head line.kind; times = count_of_repeats line; condition = condition_of line; kernel = nothing; number = 0 }
+with_head line head =
+    record line { head = head; kind = kind_in head line.kind; times = count_of_repeats line; condition = condition_of line; may_refuse = may_refuse_of line; kernel = nothing; number = 0 }
 
 abbrev pub put_word : Line → Word → Line
 put_word line word.Long = record line { long = true }
@@ -98,6 +112,7 @@ put_by_sort line meaning sort.Timer = record line { object = meaning }
 put_by_sort line meaning sort.Wait = record line { object = meaning }
 put_by_sort line meaning sort.Io = record line { object = meaning }
 put_by_sort line meaning sort.Operation = record line { object = meaning }
+put_by_sort line meaning sort.Memory = record line { object = meaning }
 put_by_sort line meaning sort.Routine = line
 
 abbrev pub put_name : Line → Meaning → Line
@@ -150,6 +165,9 @@ abbrev pub form_of : Field → Line → Form
 form_of field.Head line = form.Choice
 form_of field.Repeated line = form.Choice
 form_of field.Conditional line = form.Choice
+form_of field.Tried line = form.Choice
+form_of field.RepeatedTried line = form.Choice
+form_of field.Bare line = form.Choice
 form_of (field.Fresh tally) line = form.Fresh tally
 form_of (field.Name wanted) line = form.Name wanted
 form_of field.Armed line = form.Armed

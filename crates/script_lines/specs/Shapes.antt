@@ -25,6 +25,7 @@ shape_of word.Semaphore = record { class = class.Declaration; text = codes "sema
 shape_of word.Mutex = record { class = class.Declaration; text = codes "mutex"; fields = field.Fresh tally.Kernels ∷ [] }
 shape_of word.Section = record { class = class.Declaration; text = codes "section"; fields = field.Fresh tally.Kernels ∷ [] }
 shape_of (word.Object kind) = record { class = class.Declaration; text = text_of_kind kind; fields = field.Fresh tally.Objects ∷ field.Routine ∷ field.Options 1 ∷ [] }
+shape_of word.Memory = record { class = class.Declaration; text = codes "memory"; fields = field.Fresh tally.Memories ∷ [] }
 shape_of word.Routine = record { class = class.Routine; text = codes "routine"; fields = field.Fresh tally.Routines ∷ [] }
 shape_of word.Client = record { class = class.Client; text = codes "client"; fields = [] }
 shape_of word.Done = record { class = class.Done; text = codes "done"; fields = [] }
@@ -60,6 +61,15 @@ shape_of word.OnReturn = record { class = class.Own; text = codes "on-return"; f
 shape_of word.Times = record { class = class.Times; text = codes "times"; fields = field.Count ∷ field.Repeated ∷ [] }
 shape_of word.If = record { class = class.Condition; text = codes "if"; fields = field.Name want.Kernel ∷ field.Conditional ∷ [] }
 shape_of word.Unless = record { class = class.Condition; text = codes "unless"; fields = field.Name want.Kernel ∷ field.Conditional ∷ [] }
+shape_of word.TriedIf = record { class = class.TriedCondition; text = codes "if"; fields = field.Name want.Kernel ∷ field.Bare ∷ [] }
+shape_of word.TriedUnless = record { class = class.TriedCondition; text = codes "unless"; fields = field.Name want.Kernel ∷ field.Bare ∷ [] }
+shape_of word.Try = record { class = class.Try; text = codes "try"; fields = field.Tried ∷ [] }
+shape_of word.RepeatedTry = record { class = class.RepeatedTry; text = codes "try"; fields = field.RepeatedTried ∷ [] }
+shape_of word.ConditionalTry = record { class = class.ConditionalTry; text = codes "try"; fields = field.Bare ∷ [] }
+shape_of word.Use = record { class = class.Mark; text = codes "use"; fields = field.Name want.UnusedMemory ∷ [] }
+shape_of word.Drop = record { class = class.Mark; text = codes "drop"; fields = field.Name want.UsedMemory ∷ [] }
+shape_of word.Free = record { class = class.Mark; text = codes "free"; fields = field.Name want.Memory ∷ [] }
+shape_of word.Quiet = record { class = class.Mark; text = codes "quiet"; fields = field.Name want.Source ∷ [] }
 shape_of word.Context = record { class = class.Option 1; text = codes "context"; fields = field.Large ∷ field.Options 2 ∷ [] }
 shape_of word.In = record { class = class.Option 2; text = codes "in"; fields = field.Name want.Pool ∷ field.Options 3 ∷ [] }
 shape_of word.OfPriority = record { class = class.Option 3; text = codes "priority"; fields = field.Priority ∷ field.Options 4 ∷ [] }
@@ -88,9 +98,9 @@ fields_of word = (shape_of word).fields
 abbrev pub all_words : List Word
 all_words =
     word.Pool ∷ word.Group ∷ word.Event ∷ word.Semaphore ∷ word.Mutex ∷ word.Section ∷ word.Object kind.Work ∷ word.Object kind.Timer ∷ word.Object kind.Wait ∷ word.Object kind.Io ∷
-    word.Routine ∷ word.Client ∷ word.Done ∷ word.Submit ∷ word.Simple ∷ word.SetTimer ∷ word.SetTimerEx ∷ word.IsTimerSet ∷ word.SetWait ∷ word.StartIo ∷ word.CancelIo ∷
+    word.Memory ∷ word.Routine ∷ word.Client ∷ word.Done ∷ word.Submit ∷ word.Simple ∷ word.SetTimer ∷ word.SetTimerEx ∷ word.IsTimerSet ∷ word.SetWait ∷ word.StartIo ∷ word.CancelIo ∷
     word.IssueIo ∷ word.CompleteIo ∷ word.CompleteNext ∷ word.Let ∷ word.Close ∷ word.BeginWait ∷ word.CloseMembers ∷ word.CloseGroup ∷ word.ClosePool ∷ word.SetMaximum ∷ word.SetMinimum ∷
     word.SetEvent ∷ word.ResetEvent ∷ word.ReleaseSemaphore ∷ word.Release ∷ word.Acquire ∷ word.TryAcquire ∷ word.Advance ∷ word.MayRunLong ∷ word.Disassociate ∷ word.OnReturn ∷ word.Times ∷
-    word.If ∷ word.Unless ∷ word.Context ∷ word.In ∷ word.OfPriority ∷ word.Long ∷ word.Persistent ∷ word.InGroup ∷ word.CancelBy ∷ word.Maximum ∷ word.Minimum ∷ word.Kind kind.Work ∷ word.Kind kind.Timer ∷
+    word.If ∷ word.Unless ∷ word.TriedIf ∷ word.TriedUnless ∷ word.Try ∷ word.RepeatedTry ∷ word.ConditionalTry ∷ word.Use ∷ word.Drop ∷ word.Free ∷ word.Quiet ∷ word.Context ∷ word.In ∷ word.OfPriority ∷ word.Long ∷ word.Persistent ∷ word.InGroup ∷ word.CancelBy ∷ word.Maximum ∷ word.Minimum ∷ word.Kind kind.Work ∷ word.Kind kind.Timer ∷
     word.Kind kind.Wait ∷ word.Kind kind.Io ∷ word.Priority priority.High ∷ word.Priority priority.Normal ∷ word.Priority priority.Low ∷ word.How true ∷ word.How false ∷
     word.Reset true ∷ word.Reset false ∷ word.Signal true ∷ word.Signal false ∷ []

@@ -9,6 +9,7 @@ use Rattle.script_lines.specs.declared.fault.ScriptKind.TheVariants.{Unexpected,
 use Rattle.script_lines.specs.declared.line.Form.{Form}
 use Rattle.script_lines.specs.declared.line.Form.TheVariants as form
 use Rattle.script_lines.specs.declared.line.Line.{Line}
+use Rattle.script_lines.specs.declared.line.Meaning.{Meaning}
 use Rattle.script_lines.specs.declared.line.Token.{Token}
 use Rattle.script_lines.specs.declared.line.Token.TheVariants as token
 use Rattle.script_lines.specs.declared.state.Place.{Place}
@@ -27,7 +28,7 @@ use Rattle.script_lines.specs.declared.words.Word.TheVariants as word
 use Rattle.script_lines.specs.Known.{found_in, is_known, is_standing}
 use Rattle.script_lines.specs.Lines.{form_of}
 use Rattle.script_lines.specs.Shapes.{all_words, class_of, text_of_word}
-use Rattle.script_lines.specs.States.{count_of, is_before_clients, is_declaring, is_in_routine, is_inside, is_outside, limit_of}
+use Rattle.script_lines.specs.States.{count_of, is_before_clients, is_declaring, is_in_routine, is_inside, is_outside, is_using, limit_of}
 use Rattle.script_lines.specs.Texts.{is_name}
 
 -- whether words of the class may begin a line
@@ -40,6 +41,8 @@ is_head place class.Operation = is_inside place
 is_head place class.Making = is_inside place
 is_head place class.Times = is_inside place
 is_head place class.Condition = is_inside place
+is_head place class.Try = is_inside place
+is_head place class.Mark = is_inside place
 is_head place class.Own = is_in_routine place
 is_head place _ = false
 
@@ -47,14 +50,37 @@ is_head place _ = false
 abbrev pub is_repeated : Place → Class → Bool
 is_repeated place class.Operation = is_inside place
 is_repeated place class.Condition = is_inside place
+is_repeated place class.RepeatedTry = is_inside place
 is_repeated place class.Own = is_in_routine place
 is_repeated place _ = false
 
 -- whether words of the class may stand behind a condition
 abbrev pub is_conditional : Place → Class → Bool
 is_conditional place class.Operation = is_inside place
+is_conditional place class.ConditionalTry = is_inside place
 is_conditional place class.Own = is_in_routine place
 is_conditional place _ = false
+
+-- whether words of the class may stand behind `try`
+abbrev pub is_tried : Place → Class → Bool
+is_tried place class.Operation = is_inside place
+is_tried place class.Making = is_inside place
+is_tried place class.TriedCondition = is_inside place
+is_tried place class.Own = is_in_routine place
+is_tried place _ = false
+
+-- and where `times` stands before it
+abbrev pub is_repeated_tried : Place → Class → Bool
+is_repeated_tried place class.Operation = is_inside place
+is_repeated_tried place class.TriedCondition = is_inside place
+is_repeated_tried place class.Own = is_in_routine place
+is_repeated_tried place _ = false
+
+-- whether words of the class may stand behind a condition and `try`
+abbrev pub is_bare : Place → Class → Bool
+is_bare place class.Operation = is_inside place
+is_bare place class.Own = is_in_routine place
+is_bare place _ = false
 
 -- options stand in their order
 abbrev pub is_option : ℕ → Class → Bool
@@ -94,6 +120,9 @@ abbrev pub may_stand : Place → Field → Class → Bool
 may_stand place field.Head class = is_head place class
 may_stand place field.Repeated class = is_repeated place class
 may_stand place field.Conditional class = is_conditional place class
+may_stand place field.Tried class = is_tried place class
+may_stand place field.RepeatedTried class = is_repeated_tried place class
+may_stand place field.Bare class = is_bare place class
 may_stand place (field.Options first) class = is_option first class
 may_stand place field.CancelOption class = is_cancel class
 may_stand place (field.PoolOptions first) class = is_pool_option first class
@@ -120,6 +149,9 @@ abbrev pub token_of_word : Field → Word → Token
 token_of_word field.Head word = token.Head word
 token_of_word field.Repeated word = token.Head word
 token_of_word field.Conditional word = token.Head word
+token_of_word field.Tried word = token.Head word
+token_of_word field.RepeatedTried word = token.Head word
+token_of_word field.Bare word = token.Head word
 token_of_word _ word = token.Word word
 
 abbrev pub choice_of : State → Field → List ℕ → Option Token
@@ -163,11 +195,28 @@ suits want.Object sort.Timer = true
 suits want.Object sort.Wait = true
 suits want.Object sort.Io = true
 suits want.Operation sort.Operation = true
+suits want.Memory sort.Memory = true
+suits want.UnusedMemory sort.Memory = true
+suits want.UsedMemory sort.Memory = true
+suits want.Source sort.Work = true
+suits want.Source sort.Timer = true
+suits want.Source sort.Wait = true
+suits want.Source sort.Io = true
+suits want.Source sort.Group = true
 suits _ _ = false
+
+-- a memory's use begins where the section doesn't use it, and ends where it does
+abbrev pub may_come : State → Want → ℕ → Bool
+may_come state want.UnusedMemory number = not (is_using state number)
+may_come state want.UsedMemory number = is_using state number
+may_come state _ number = true
+
+abbrev pub is_wanted : State → Want → Meaning → Bool
+is_wanted state wanted meaning = suits wanted meaning.sort && may_come state wanted meaning.number
 
 -- a name that stands here for what is wanted
 abbrev pub name_of : Known → Want → List ℕ → Option Token
-name_of known wanted text = option_and_then (λ meaning. if suits wanted meaning.sort then Some (token.Name meaning) else None) (found_in known text)
+name_of known wanted text = option_and_then (λ meaning. if is_wanted known.state wanted meaning then Some (token.Name meaning) else None) (found_in known text)
 
 -- a kernel object, or `none`
 abbrev pub armed_of : Known → List ℕ → Option Token
@@ -202,11 +251,20 @@ fresh_kind known tally text = if not (is_name text) then Unexpected else (if is_
 abbrev pub name_kind : Known → List ℕ → ScriptKind
 name_kind known text = if not (is_name text) then Unexpected else (if is_known known text then WrongName else UnknownName)
 
+-- what stands for the sort is wanted
+abbrev pub is_suited : Want → Option Meaning → Bool
+is_suited wanted (Some meaning) = suits wanted meaning.sort
+is_suited wanted None = false
+
+-- and why such a word isn't one that may come here: it is a memory that the section uses, or one that it doesn't use
+abbrev pub wanted_kind : Known → Want → List ℕ → ScriptKind
+wanted_kind known wanted text = if is_suited wanted (found_in known text) then Unexpected else name_kind known text
+
 -- why a word that says nothing in the field may not stand there
 abbrev pub kind_of_field : Known → Field → List ℕ → ScriptKind
 kind_of_field known field.Head text = head_kind known.state text
 kind_of_field known (field.Fresh tally) text = fresh_kind known tally text
-kind_of_field known (field.Name wanted) text = name_kind known text
+kind_of_field known (field.Name wanted) text = wanted_kind known wanted text
 kind_of_field known field.Armed text = name_kind known text
 kind_of_field known field.Routine text = name_kind known text
 kind_of_field known _ text = Unexpected

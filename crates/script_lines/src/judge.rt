@@ -5,7 +5,7 @@ ghost use Rattle.script_lines.specs.declared.state.Place.{Place};
 ghost use Rattle.script_lines.specs.declared.words.Field.{Field};
 ghost use Rattle.script_lines.specs.declared.line.Token.{Token};
 ghost use Rattle.script_lines.specs.Known.{found_in, is_standing};
-ghost use Rattle.script_lines.specs.Tokens.{Fits, IsDueToken, IsNumberToken, armed_of, choice_of, fresh_kind, fresh_of, is_at, is_conditional, is_head, is_repeated, kind_of_field, may_stand, name_kind, name_of, suits, token_of_word, word_at};
+ghost use Rattle.script_lines.specs.Tokens.{Fits, IsDueToken, IsNumberToken, armed_of, choice_of, fresh_kind, fresh_of, is_at, is_bare, is_conditional, is_head, is_repeated, is_repeated_tried, is_tried, is_wanted, kind_of_field, may_come, may_stand, name_kind, name_of, suits, token_of_word, wanted_kind, word_at};
 
 use crate::fault::ScriptKind;
 use crate::line::{Form, Line, Meaning, Token, form_of};
@@ -57,7 +57,8 @@ pub fn kind_of_field(known: &Known<'_>, field: Field, word: &[u8]) -> ScriptKind
             None => ScriptKind::Unexpected,
         },
         Field::Fresh(tally) => fresh_kind(known, tally, word),
-        Field::Name(_) | Field::Armed | Field::Routine => name_kind(known, word),
+        Field::Name(want) => wanted_kind(known, want, word),
+        Field::Armed | Field::Routine => name_kind(known, word),
         _ => ScriptKind::Unexpected,
     }
 }
@@ -83,6 +84,16 @@ fn name_kind(known: &Known<'_>, word: &[u8]) -> ScriptKind
         ScriptKind::WrongName
     } else {
         ScriptKind::UnknownName
+    }
+}
+
+// Why a word isn't the name that is wanted. A memory that is used already can't be used, nor can one be dropped that isn't.
+fn wanted_kind(known: &Known<'_>, want: Want, word: &[u8]) -> ScriptKind
+    ensures { result ≡ wanted_kind known.now want word.now }
+{
+    match found_in(known, word) {
+        Some(meaning) if suits(want, meaning.sort) => ScriptKind::Unexpected,
+        _ => name_kind(known, word),
     }
 }
 
@@ -143,13 +154,14 @@ fn words_with(letter: u8) -> &'static [Word]
             Word::How(true),
             Word::Signal(false),
         ],
-        b'd' => &[Word::Done, Word::Disassociate],
+        b'd' => &[Word::Done, Word::Disassociate, Word::Drop],
         b'g' => &[Word::Group, Word::InGroup],
         b'i' => &[
             Word::Object(Kind::Io),
             Word::IsTimerSet,
             Word::IssueIo,
             Word::If,
+            Word::TriedIf,
             Word::In,
             Word::Kind(Kind::Io),
         ],
@@ -179,9 +191,12 @@ fn words_with(letter: u8) -> &'static [Word]
             Word::Object(Kind::Timer),
             Word::TryAcquire,
             Word::Times,
+            Word::Try,
+            Word::RepeatedTry,
+            Word::ConditionalTry,
             Word::Kind(Kind::Timer),
         ],
-        b'u' => &[Word::Unless],
+        b'u' => &[Word::Unless, Word::TriedUnless, Word::Use],
         b'w' => &[
             Word::Object(Kind::Work),
             Word::Object(Kind::Wait),
@@ -197,7 +212,12 @@ fn token_of_word(field: Field, word: Word) -> Token
     ensures { result ≡ token_of_word field word }
 {
     match field {
-        Field::Head | Field::Repeated | Field::Conditional => Token::Head(word),
+        Field::Head
+        | Field::Repeated
+        | Field::Conditional
+        | Field::Tried
+        | Field::RepeatedTried
+        | Field::Bare => Token::Head(word),
         _ => Token::Word(word),
     }
 }
@@ -210,6 +230,9 @@ fn may_stand(place: Place, field: Field, class: Class) -> bool
         Field::Head => is_head(place, class),
         Field::Repeated => is_repeated(place, class),
         Field::Conditional => is_conditional(place, class),
+        Field::Tried => is_tried(place, class),
+        Field::RepeatedTried => is_repeated_tried(place, class),
+        Field::Bare => is_bare(place, class),
         Field::Options(first) => matches!(class, Class::Option(order) if first <= order),
         Field::CancelOption => matches!(class, Class::Cancel),
         Field::PoolOptions(first) => matches!(class, Class::PoolOption(order) if first <= order),
@@ -230,9 +253,13 @@ fn is_head(place: Place, class: Class) -> bool
         Class::Declaration => place.is_declaring(),
         Class::Routine => place.is_before_clients(),
         Class::Client => place.is_outside(),
-        Class::Done | Class::Operation | Class::Making | Class::Times | Class::Condition => {
-            place.is_inside()
-        }
+        Class::Done
+        | Class::Operation
+        | Class::Making
+        | Class::Times
+        | Class::Condition
+        | Class::Try
+        | Class::Mark => place.is_inside(),
         Class::Own => place.is_in_routine(),
         _ => false,
     }
@@ -243,7 +270,7 @@ fn is_repeated(place: Place, class: Class) -> bool
     ensures { result ≡ is_repeated place class }
 {
     match class {
-        Class::Operation | Class::Condition => place.is_inside(),
+        Class::Operation | Class::Condition | Class::RepeatedTry => place.is_inside(),
         Class::Own => place.is_in_routine(),
         _ => false,
     }
@@ -252,6 +279,39 @@ fn is_repeated(place: Place, class: Class) -> bool
 // Whether words of the class may stand behind a condition.
 fn is_conditional(place: Place, class: Class) -> bool
     ensures { result ≡ is_conditional place class }
+{
+    match class {
+        Class::Operation | Class::ConditionalTry => place.is_inside(),
+        Class::Own => place.is_in_routine(),
+        _ => false,
+    }
+}
+
+// Whether words of the class may stand behind `try`.
+fn is_tried(place: Place, class: Class) -> bool
+    ensures { result ≡ is_tried place class }
+{
+    match class {
+        Class::Operation | Class::Making | Class::TriedCondition => place.is_inside(),
+        Class::Own => place.is_in_routine(),
+        _ => false,
+    }
+}
+
+// The same, where `times` stands before `try`.
+fn is_repeated_tried(place: Place, class: Class) -> bool
+    ensures { result ≡ is_repeated_tried place class }
+{
+    match class {
+        Class::Operation | Class::TriedCondition => place.is_inside(),
+        Class::Own => place.is_in_routine(),
+        _ => false,
+    }
+}
+
+// Whether words of the class may stand behind a condition and `try`.
+fn is_bare(place: Place, class: Class) -> bool
+    ensures { result ≡ is_bare place class }
 {
     match class {
         Class::Operation => place.is_inside(),
@@ -338,10 +398,27 @@ fn name_of(known: &Known<'_>, want: Want, word: &[u8]) -> Option<Token>
     ensures { result ≡ name_of known.now want word.now }
 {
     let meaning = found_in(known, word)?;
-    if suits(want, meaning.sort) {
+    if is_wanted(known.state, want, meaning) {
         Some(Token::Name(meaning))
     } else {
         None
+    }
+}
+
+fn is_wanted(state: State, want: Want, meaning: Meaning) -> bool
+    ensures { result ≡ is_wanted state want meaning }
+{
+    suits(want, meaning.sort) && may_come(state, want, meaning.number)
+}
+
+// Whether the section may begin or end a use of the memory of this number, where one of these is wanted.
+fn may_come(state: State, want: Want, number: u16) -> bool
+    ensures { result ≡ may_come state want number }
+{
+    match want {
+        Want::UnusedMemory => !state.is_using(number),
+        Want::UsedMemory => state.is_using(number),
+        _ => true,
     }
 }
 
@@ -375,5 +452,10 @@ fn suits(want: Want, sort: Sort) -> bool
         Want::Io => matches!(sort, Sort::Io),
         Want::Object => matches!(sort, Sort::Work | Sort::Timer | Sort::Wait | Sort::Io),
         Want::Operation => matches!(sort, Sort::Operation),
+        Want::Memory | Want::UnusedMemory | Want::UsedMemory => matches!(sort, Sort::Memory),
+        Want::Source => matches!(
+            sort,
+            Sort::Work | Sort::Timer | Sort::Wait | Sort::Io | Sort::Group
+        ),
     }
 }

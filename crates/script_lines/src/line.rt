@@ -1,7 +1,7 @@
 //! A line of a script: what its words say.
 
 ghost use Rattle.std.specs.Prelude.{◌≡◌};
-ghost use Rattle.script_lines.specs.Lines.{after, blank, condition_of, count_of_repeats, form_of, may_end, nothing, put, put_name, put_routine, put_word, with_head};
+ghost use Rattle.script_lines.specs.Lines.{after, blank, condition_of, count_of_repeats, form_of, may_end, may_refuse_of, nothing, put, put_name, put_routine, put_word, with_head};
 
 use crate::words::{Field, Sort, Tally, Want, Word, fields_of};
 use tp_base::calls::{Kind, Priority};
@@ -57,7 +57,7 @@ pub struct Line {
     pub number: u64,
     /// The number before it.
     pub before: u64,
-    /// The object or operation.
+    /// The object, operation or memory.
     pub object: Meaning,
     /// The kernel object, or number 0 for none.
     pub kernel: Meaning,
@@ -86,6 +86,8 @@ pub struct Line {
     pub maximum: bool,
     /// A pool's minimum is given.
     pub minimum: bool,
+    /// The operation may be refused: `try` stands before it.
+    pub may_refuse: bool,
 }
 
 /// How a word of a field is written.
@@ -148,6 +150,7 @@ impl Line {
             signalled: false,
             maximum: false,
             minimum: false,
+            may_refuse: false,
         }
     }
 
@@ -171,8 +174,8 @@ impl Line {
         }
     }
 
-    // What the line is. Behind `times` and its count, and behind a condition, it is what is made. The kernel object that a
-    // condition asks is not the operation's.
+    // What the line is. Behind `times` and its count, behind a condition and behind `try`, it is what is made. The kernel
+    // object that a condition asks is not the operation's.
     fn with_head(self, head: Word) -> Line
         ensures { result ≡ with_head self head }
     {
@@ -185,6 +188,7 @@ impl Line {
             kind,
             times: self.count_of_repeats(),
             condition: self.condition_of(),
+            may_refuse: self.may_refuse_of(),
             kernel: Meaning::nothing(),
             number: 0,
             ..self
@@ -209,10 +213,21 @@ impl Line {
         ensures { result ≡ condition_of self }
     {
         match self.head {
-            Word::If => Condition::If(self.kernel.number),
-            Word::Unless => Condition::Unless(self.kernel.number),
+            Word::If | Word::TriedIf => Condition::If(self.kernel.number),
+            Word::Unless | Word::TriedUnless => Condition::Unless(self.kernel.number),
             _ => self.condition,
         }
+    }
+
+    // Whether the operation may be refused.
+    fn may_refuse_of(self) -> bool
+        ensures { result ≡ may_refuse_of self }
+    {
+        self.may_refuse
+            || matches!(
+                self.head,
+                Word::Try | Word::RepeatedTry | Word::ConditionalTry
+            )
     }
 
     fn put_word(self, word: Word) -> Line
@@ -257,10 +272,11 @@ impl Line {
                 kernel: meaning,
                 ..self
             },
-            Sort::Work | Sort::Timer | Sort::Wait | Sort::Io | Sort::Operation => Line {
-                object: meaning,
-                ..self
-            },
+            Sort::Work | Sort::Timer | Sort::Wait | Sort::Io | Sort::Operation | Sort::Memory =>
+                Line {
+                    object: meaning,
+                    ..self
+                },
             Sort::Routine => self,
         }
     }
@@ -311,6 +327,9 @@ pub fn form_of(field: Field, line: Line) -> Form
         Field::Head
         | Field::Repeated
         | Field::Conditional
+        | Field::Tried
+        | Field::RepeatedTried
+        | Field::Bare
         | Field::Kind
         | Field::Priority
         | Field::How

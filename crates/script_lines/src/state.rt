@@ -1,7 +1,7 @@
 //! How far a script has come: its part, and how many things it has made.
 
 ghost use Rattle.std.specs.Prelude.{◌≡◌};
-ghost use Rattle.script_lines.specs.States.{count_of, first_state, is_before_clients, is_declaring, is_in_routine, is_inside, is_outside, left_place, limit_of, raised, state_after, with_section};
+ghost use Rattle.script_lines.specs.States.{count_of, first_state, is_before_clients, is_declaring, is_in_routine, is_inside, is_outside, is_using, left_place, limit_of, raised, state_after, state_behind, used_after, with_section, with_use};
 
 use crate::line::Line;
 use crate::words::{Tally, Word};
@@ -31,11 +31,14 @@ pub struct State {
     pub objects: u16,
     pub kernels: u16,
     pub routines: u16,
+    pub memories: u16,
     pub clients: u16,
     /// The local names of this section.
     pub locals: u16,
     /// Routines and clients, the one that was begun last among them: the number of the section. Section 0 is the script.
     pub section: u32,
+    /// Whether this section uses the memory of each number, from 1.
+    pub used: [bool; 64],
 }
 
 impl Place {
@@ -98,9 +101,11 @@ impl State {
             objects: 0,
             kernels: 0,
             routines: 0,
+            memories: 0,
             clients: 0,
             locals: 0,
             section: 0,
+            used: [false; 64],
         }
     }
 
@@ -114,15 +119,40 @@ impl State {
             Tally::Objects => self.objects,
             Tally::Kernels => self.kernels,
             Tally::Routines => self.routines,
+            Tally::Memories => self.memories,
             Tally::Locals => self.locals,
+        }
+    }
+
+    /// Whether this section uses the memory of this number.
+    pub fn is_using(self, number: u16) -> bool
+        ensures { result ≡ is_using self number }
+    {
+        if number < 1 {
+            return false;
+        }
+        match self.used.get(usize::from(number - 1)) {
+            Some(used) => *used,
+            None => false,
         }
     }
 
     /// How far the script has come behind a line.
     pub fn after(self, line: Line) -> State
-        ensures { result ≡ state_after self line.head }
+        ensures { result ≡ state_behind self line }
     {
-        match line.head {
+        let made = self.with_made(line.head);
+        State {
+            used: used_after(made.used, line.head, line.object.number),
+            ..made
+        }
+    }
+
+    // What the script has made behind a line with this head.
+    fn with_made(self, head: Word) -> State
+        ensures { result ≡ state_after self head }
+    {
+        match head {
             Word::Pool => State {
                 pools: raised(self.pools, 63),
                 ..self
@@ -137,6 +167,10 @@ impl State {
             },
             Word::Object(_) => State {
                 objects: raised(self.objects, OBJECT_LIMIT),
+                ..self
+            },
+            Word::Memory => State {
+                memories: raised(self.memories, 64),
                 ..self
             },
             Word::Routine => State {
@@ -159,7 +193,7 @@ impl State {
         }
     }
 
-    // A new section begins, with no local names.
+    // A new section begins, with no local names, and uses no memory.
     fn with_section(self, place: Place) -> State
         ensures { result ≡ with_section self place }
     {
@@ -172,6 +206,7 @@ impl State {
             place,
             locals: 0,
             section,
+            used: [false; 64],
             ..self
         }
     }
@@ -187,8 +222,31 @@ pub fn limit_of(tally: Tally) -> u16
         Tally::Objects => OBJECT_LIMIT,
         Tally::Kernels => 1_024,
         Tally::Routines => 65_535,
+        Tally::Memories => 64,
         Tally::Locals => 32,
     }
+}
+
+// Which memories a section uses behind a line with this head, which names the memory of this number.
+fn used_after(used: [bool; 64], head: Word, number: u16) -> [bool; 64]
+    ensures { result ≡ used_after used head number }
+{
+    match head {
+        Word::Use => with_use(used, number, true),
+        Word::Drop => with_use(used, number, false),
+        _ => used,
+    }
+}
+
+// The same where the memory of a number is used from now on, or no longer.
+fn with_use(used: [bool; 64], number: u16, now_used: bool) -> [bool; 64]
+    ensures { result ≡ with_use used number now_used }
+{
+    let mut used = used;
+    if 1 <= number && number <= 64 {
+        used[usize::from(number - 1)] = now_used;
+    }
+    used
 }
 
 // One more, up to the limit.

@@ -14,6 +14,7 @@ pub enum Tally {
     /// Kernel objects.
     Kernels,
     Routines,
+    Memories,
     /// The local names of one section: a routine or a client.
     Locals,
 }
@@ -34,6 +35,7 @@ pub enum Sort {
     /// An operation that was issued.
     Operation,
     Routine,
+    Memory,
 }
 
 /// What a word that is a name has to stand for.
@@ -54,6 +56,13 @@ pub enum Want {
     /// An object of any kind.
     Object,
     Operation,
+    Memory,
+    /// A memory that this section doesn't use.
+    UnusedMemory,
+    /// A memory that this section uses.
+    UsedMemory,
+    /// What callbacks are of: an object of any kind, or a group.
+    Source,
 }
 
 /// What a word of a line says, by its place in the line.
@@ -61,10 +70,16 @@ pub enum Want {
 pub enum Field {
     /// What the line is.
     Head,
-    /// The operation behind `times` and its count, or its condition.
+    /// The operation behind `times` and its count, or its condition, or `try`.
     Repeated,
-    /// The operation behind a condition.
+    /// The operation behind a condition, or `try`.
     Conditional,
+    /// The operation behind `try`, or its condition.
+    Tried,
+    /// The same, where `times` stands before `try`.
+    RepeatedTried,
+    /// The operation behind a condition and `try`, whichever of the two comes first.
+    Bare,
     /// A new name.
     Fresh(Tally),
     /// A name that stands.
@@ -123,6 +138,14 @@ pub enum Class {
     Own,
     Times,
     Condition,
+    /// What asks behind `try`.
+    TriedCondition,
+    /// `try` at the front of a line, behind `times`, and behind a condition.
+    Try,
+    RepeatedTry,
+    ConditionalTry,
+    /// What is said of memories and callbacks between operations.
+    Mark,
     /// The options of callbacks, by their order.
     Option(u8),
     /// What stands behind a group's name among them.
@@ -147,6 +170,7 @@ pub enum Word {
     Section,
     /// The declaration of an object.
     Object(Kind),
+    Memory,
     Routine,
     Client,
     Done,
@@ -182,6 +206,18 @@ pub enum Word {
     Times,
     If,
     Unless,
+    /// Conditions behind `try`.
+    TriedIf,
+    TriedUnless,
+    Try,
+    /// `try` behind `times` and its count.
+    RepeatedTry,
+    /// `try` behind a condition.
+    ConditionalTry,
+    Use,
+    Drop,
+    Free,
+    Quiet,
     Context,
     In,
     OfPriority,
@@ -213,6 +249,7 @@ macro_rules! words {
             (Word::Object(Kind::Timer)) (Class::Declaration) b"timer" [Field::Fresh(Tally::Objects), Field::Routine, Field::Options(1)];
             (Word::Object(Kind::Wait)) (Class::Declaration) b"wait" [Field::Fresh(Tally::Objects), Field::Routine, Field::Options(1)];
             (Word::Object(Kind::Io)) (Class::Declaration) b"io" [Field::Fresh(Tally::Objects), Field::Routine, Field::Options(1)];
+            (Word::Memory) (Class::Declaration) b"memory" [Field::Fresh(Tally::Memories)];
             (Word::Routine) (Class::Routine) b"routine" [Field::Fresh(Tally::Routines)];
             (Word::Client) (Class::Client) b"client" [];
             (Word::Done) (Class::Done) b"done" [];
@@ -248,6 +285,15 @@ macro_rules! words {
             (Word::Times) (Class::Times) b"times" [Field::Count, Field::Repeated];
             (Word::If) (Class::Condition) b"if" [Field::Name(Want::Kernel), Field::Conditional];
             (Word::Unless) (Class::Condition) b"unless" [Field::Name(Want::Kernel), Field::Conditional];
+            (Word::TriedIf) (Class::TriedCondition) b"if" [Field::Name(Want::Kernel), Field::Bare];
+            (Word::TriedUnless) (Class::TriedCondition) b"unless" [Field::Name(Want::Kernel), Field::Bare];
+            (Word::Try) (Class::Try) b"try" [Field::Tried];
+            (Word::RepeatedTry) (Class::RepeatedTry) b"try" [Field::RepeatedTried];
+            (Word::ConditionalTry) (Class::ConditionalTry) b"try" [Field::Bare];
+            (Word::Use) (Class::Mark) b"use" [Field::Name(Want::UnusedMemory)];
+            (Word::Drop) (Class::Mark) b"drop" [Field::Name(Want::UsedMemory)];
+            (Word::Free) (Class::Mark) b"free" [Field::Name(Want::Memory)];
+            (Word::Quiet) (Class::Mark) b"quiet" [Field::Name(Want::Source)];
             (Word::Context) (Class::Option(1)) b"context" [Field::Large, Field::Options(2)];
             (Word::In) (Class::Option(2)) b"in" [Field::Name(Want::Pool), Field::Options(3)];
             (Word::OfPriority) (Class::Option(3)) b"priority" [Field::Priority, Field::Options(4)];
@@ -289,7 +335,7 @@ macro_rules! all_words {
 }
 
 /// All words.
-pub static WORDS: [Word; 67] = words!(all_words, ());
+pub static WORDS: [Word; 77] = words!(all_words, ());
 
 // What is known of a word.
 struct Known {

@@ -1,5 +1,5 @@
 -- What client 1 does: it makes the declarations, and waits for nothing.
-use Rattle.std.proofs.Common.{◌≡◌, ℕ, zero, suc, ◌+◌, Bool, true, false, List, [], ◌∷◌, Option, Some, None, IfSome, ◌⊎◌, ◌&&◌, fold, nat_eq, nat_lt, option_and_then, slice_get, if◌then◌else◌, refl, sym, ap, ◌∙◌, subst, arith, inl, inr}
+use Rattle.std.proofs.Common.{◌≡◌, ℕ, zero, suc, ◌+◌, Bool, true, false, List, [], ◌∷◌, ◌++◌, Option, Some, None, IfSome, ◌⊎◌, ◌&&◌, fold, nat_eq, nat_lt, option_and_then, slice_get, if◌then◌else◌, refl, sym, ap, ◌∙◌, subst, arith, inl, inr}
 use Rattle.tp_base.specs.declared.answers.Answer.{Answer}
 use Rattle.tp_base.specs.declared.calls.Call.TheVariants as call
 use Rattle.script_lines.specs.declared.judge.Known.{Known}
@@ -14,14 +14,16 @@ use Rattle.script_lines.specs.declared.words.Class.TheVariants as class
 use Rattle.script_lines.specs.declared.words.Word.{Word}
 use Rattle.script_lines.specs.declared.words.Word.TheVariants as word
 use Rattle.script_lines.specs.Shapes.{class_of}
-use Rattle.script_lines.specs.States.{state_after}
+use Rattle.script_lines.specs.States.{is_inside, state_after}
 use Rattle.script_lines.specs.Texts.{lines_of}
-use Rattle.script_lines.specs.Tokens.{is_head, is_repeated}
+use Rattle.script_lines.specs.Tokens.{is_head}
 use Rattle.script_lines.proofs.HeadFacts.{MayHead, line_head}
 use Rattle.tp_script.specs.declared.routines.Part.TheVariants.{Client}
 use Rattle.tp_script.specs.declared.routines.Progress.{Progress}
 use Rattle.tp_script.specs.Calls.{acts, begins_wait, begins_wait_call, call_by, calls_in, is_met, maximum_of, poll_by, small_of}
 use Rattle.tp_script.specs.Nexts.{acting, after_at, call_at, first_progress, line_after, line_at, next_at, noted, number_in, polled, polls, progress_after, stepped, waited, with_local}
+use Rattle.tp_script.specs.declared.numbered.NumberedLine.{NumberedLine}
+use Rattle.tp_script.specs.Parsed.{Parsed, is_played, played}
 use Rattle.tp_script.specs.Scripts.{IsScript, Reads, first_known, is_local, known_after, words_of}
 
 -- no call of such a line begins a wait
@@ -42,7 +44,7 @@ is_front class.Routine = true
 is_front class.Client = true
 is_front _ = false
 
-front_class : (of : Class) → (is_head Declarations of ≡ true) ⊎ (is_repeated Declarations of ≡ true) → is_front of ≡ true
+front_class : (of : Class) → (is_head Declarations of ≡ true) ⊎ (is_inside Declarations ≡ true) → is_front of ≡ true
 unfolding is_front
 front_class class.Declaration may = refl
 front_class class.Routine may = refl
@@ -65,6 +67,7 @@ front_calm word.Semaphore acting front = record { of_line = refl; of_calls = λ 
 front_calm word.Mutex acting front = record { of_line = refl; of_calls = λ line done locals. refl }
 front_calm word.Section acting front = record { of_line = refl; of_calls = λ line done locals. refl }
 front_calm (word.Object kind) acting front = record { of_line = refl; of_calls = λ line done locals. refl }
+front_calm word.Memory acting front = record { of_line = refl; of_calls = λ line done locals. tt }
 front_calm word.Routine acting front = let no_such : ⊥ = cc in absurd no_such
 front_calm word.Client acting front = let no_such : ⊥ = cc in absurd no_such
 front_calm _ acting front = let no_such : ⊥ = cc in absurd no_such
@@ -72,7 +75,7 @@ front_calm _ acting front = let no_such : ⊥ = cc in absurd no_such
 declared_calm : (state : State) (head : Word) → state.place ≡ Declarations → MayHead state head → acts head ≡ true → IsCalm head
 declared_calm state head declaring (inl e) acting = let no_such : ⊥ = (let inactive : acts head ≡ false = ap acts e in cc) in absurd no_such
 declared_calm state head declaring (inr (room, may)) acting =
-    front_calm head acting (front_class (class_of head) (subst (λ (p : Place). (is_head p (class_of head) ≡ true) ⊎ (is_repeated p (class_of head) ≡ true)) declaring may))
+    front_calm head acting (front_class (class_of head) (subst (λ (p : Place). (is_head p (class_of head) ≡ true) ⊎ (is_inside p ≡ true)) declaring may))
 
 -- a line that makes a call leaves the place as it is
 same_place : (state : State) (head : Word) → acts head ≡ true → (state_after state head).place ≡ state.place
@@ -86,16 +89,24 @@ IsFront : List Line → Type 0
 IsFront [] = Unit {0}
 IsFront (line ∷ lines) = acts line.head ≡ true → IsCalm line.head × IsFront lines
 
-front_of : (texts : List (List ℕ)) (known end : Known) (lines : List Line) → Reads known texts lines end → known.state.place ≡ Declarations → IsFront lines
+-- a line that isn't played leaves it too
+unplayed : (head : Word) → is_played head ≡ false → acts head ≡ true
+unplayed word.Routine e = let no_such : ⊥ = cc in absurd no_such
+unplayed word.Client e = let no_such : ⊥ = cc in absurd no_such
+unplayed word.Done e = let no_such : ⊥ = cc in absurd no_such
+unplayed _ e = refl
+
+front_of : (texts : List (List ℕ)) (known end : Known) (number : ℕ) (rows : List NumberedLine) → Reads known number texts rows end → known.state.place ≡ Declarations → IsFront (played rows)
 unfolding IsFront
-front_of [] known end lines (none, e) declaring = subst IsFront (sym none) tt
-front_of (text ∷ texts) known end lines (inl (blank, reads)) declaring = front_of texts known end lines reads declaring
-front_of (text ∷ texts) known end lines (inr (solid, (line, name, more, read, e, reads))) declaring =
-    subst IsFront (sym e)
-    (λ acting. (
-      declared_calm known.state line.head declaring (line_head known (words_of text) line name read) acting,
-      front_of texts (known_after known line name) end more reads (same_place known.state line.head acting ∙ declaring),
-    ))
+front_of [] known end number rows (none, e) declaring = subst (λ (rs : List NumberedLine). IsFront (played rs)) (sym none) tt
+front_of (text ∷ texts) known end number rows (inl (blank, reads)) declaring = front_of texts known end (number + 1) rows reads declaring
+front_of (text ∷ texts) known end number rows (inr (solid, (line, name, more, read, e, reads))) declaring =
+    subst (λ (rs : List NumberedLine). IsFront (played rs)) (sym e)
+    (by (λ acting. front_of texts (known_after known line name) end (number + 1) more reads (same_place known.state line.head acting ∙ declaring)) (is_played line.head) refl)
+  where
+    by : (acts line.head ≡ true → IsFront (played more)) → (b : Bool) → is_played line.head ≡ b → IsFront ((if b then line ∷ [] else []) ++ played more)
+    by behind true is = λ acting. (declared_calm known.state line.head declaring (line_head known (words_of text) line name read) acting, behind acting)
+    by behind false is = behind (unplayed line.head is)
 
 -- so many lines in front make calls
 AreActing : ℕ → List Line → Type 0
@@ -183,6 +194,6 @@ module _ (lines : List Line) (front : IsFront lines) where
 pub first_never_waits : (text : List ℕ) (lines : List Line) → IsScript text lines → (answers : List Answer)
     → IfSome (next_at lines (Client 1) (fold (progress_after lines (Client 1)) first_progress answers)) (λ made. begins_wait_call made ≡ false)
 unfolding AreActing
-first_never_waits text lines script answers =
-    let front = front_of (lines_of text) (first_known (lines_of text)) script.end lines script.reads refl in
+first_never_waits text lines (script, (rows, all, e), f) answers =
+    let front = subst IsFront (sym (f ∙ ap (λ (s : Parsed). s.lines) e)) (front_of (lines_of text) (first_known (lines_of text)) all.end 1 rows all.reads refl) in
     next_calm lines front (fold (progress_after lines (Client 1)) first_progress answers) (after_answers lines front answers first_progress (record { ending = refl; behind = tt }))

@@ -2,5 +2,8 @@ pub mod Answers
 pub mod Calls
 pub mod Kept
 pub mod Machines
+pub mod Named
 pub mod Nexts
+pub mod Parsed
+pub mod Parts
 pub mod Scripts

@@ -1,4 +1,4 @@
--- Which texts are scripts, which list of lines each is, and where the first fault of any other text is.
+-- Which texts are scripts, what each is read as, and where the first fault of any other text is.
 use Rattle.std.specs.Prelude.{◌≡◌, ℕ, ◌+◌, Bool, true, false, List, [], ◌∷◌, length, codes, bytes_eq, is_some, nat_eq, nat_lt, not, ◌&&◌, ◌⊎◌, if◌then◌else◌}
 use Rattle.std.specs.Map.{lookup}
 use Rattle.indexmap.specs.IndexMap.{insert_entry}
@@ -14,9 +14,11 @@ use Rattle.script_lines.specs.declared.words.Word.{Word}
 use Rattle.script_lines.specs.declared.words.Word.TheVariants as word
 use Rattle.tp_base.specs.declared.calls.Kind.{Kind}
 use Rattle.tp_base.specs.declared.calls.Kind.TheVariants as kind
+use Rattle.tp_script.specs.declared.numbered.NumberedLine.{NumberedLine}
+use Rattle.tp_script.specs.Parsed.{Parsed, parsed}
 use Rattle.script_lines.specs.Names.{Names}
 use Rattle.script_lines.specs.Readings.{IsLineFault, IsLineRead}
-use Rattle.script_lines.specs.States.{first_state, is_inside, state_after}
+use Rattle.script_lines.specs.States.{first_state, is_inside, state_behind}
 use Rattle.script_lines.specs.Texts.{Spot, is_blank, is_name, lines_of, words_from}
 
 -- the words of a line
@@ -67,6 +69,7 @@ sort_made word.Event kind = sort.Event
 sort_made word.Semaphore kind = sort.Semaphore
 sort_made word.Mutex kind = sort.Mutex
 sort_made word.Section kind = sort.Section
+sort_made word.Memory kind = sort.Memory
 sort_made word.Routine kind = sort.Routine
 sort_made word.IssueIo kind = sort.Operation
 sort_made _ kind = sort_of_kind kind
@@ -89,14 +92,15 @@ names_after known line name = if nat_eq line.made 0 then known.names else insert
 
 -- behind a line with this new name
 abbrev pub known_after : Known → Line → List ℕ → Known
-known_after known line name = record { names = names_after known line name; routines = known.routines; state = state_after known.state line.head }
+known_after known line name = record { names = names_after known line name; routines = known.routines; state = state_behind known.state line }
 
--- the texts are these lines, each in its place, and lead from one to the other; those that are blank are none
-abbrev pub Reads : Known → List (List ℕ) → List Line → Known → Type 0
-Reads known [] lines end = (lines ≡ []) × (end ≡ known)
-Reads known (text ∷ texts) lines end =
-    ((is_blank (words_of text) ≡ true) × Reads known texts lines end)
-    ⊎ ((is_blank (words_of text) ≡ false) × ((line : Line) × (name : List ℕ) × (more : List Line) × IsLineRead known (words_of text) line name × (lines ≡ line ∷ more) × Reads (known_after known line name) texts more end))
+-- the texts from this number on are these lines, each in its place, and lead from one to the other; those that are blank are none
+abbrev pub Reads : Known → ℕ → List (List ℕ) → List NumberedLine → Known → Type 0
+Reads known number [] rows end = (rows ≡ []) × (end ≡ known)
+Reads known number (text ∷ texts) rows end =
+    ((is_blank (words_of text) ≡ true) × Reads known (number + 1) texts rows end)
+    ⊎ ((is_blank (words_of text) ≡ false) × ((line : Line) × (name : List ℕ) × (more : List NumberedLine) × IsLineRead known (words_of text) line name
+    × (rows ≡ (record { number = number; line = line }) ∷ more) × Reads (known_after known line name) (number + 1) texts more end))
 
 -- the first fault of texts that begin at a line: of the first text that is no line in its place, or behind the last one where a
 -- routine or client isn't closed
@@ -107,11 +111,19 @@ Faults known number (text ∷ texts) line column kind =
     ⊎ ((is_blank (words_of text) ≡ false) × (line ≡ number) × IsLineFault known (words_of text) column kind)
     ⊎ ((is_blank (words_of text) ≡ false) × ((said : Line) × (name : List ℕ) × IsLineRead known (words_of text) said name × Faults (known_after known said name) (number + 1) texts line column kind))
 
--- the text is a script of these lines
-pub record IsScript (text : List ℕ) (lines : List Line) : Type 0 where
+-- all lines of the text are these, and each part is closed
+pub record AreLinesOf (text : List ℕ) (rows : List NumberedLine) : Type 0 where
   pub end : Known
-  pub reads : Reads (first_known (lines_of text)) (lines_of text) lines end
+  pub reads : Reads (first_known (lines_of text)) 1 (lines_of text) rows end
   pub closed : is_inside end.state.place ≡ false
+
+-- the text is read as this script
+abbrev pub IsParsed : List ℕ → Parsed → Type 0
+IsParsed text script = (rows : List NumberedLine) × AreLinesOf text rows × (script ≡ parsed rows)
+
+-- the text is a script that plays these lines
+abbrev pub IsScript : List ℕ → List Line → Type 0
+IsScript text lines = (script : Parsed) × IsParsed text script × (lines ≡ script.lines)
 
 -- the text is no script, by its first fault
 abbrev pub IsFaultIn : List ℕ → ℕ → ℕ → ScriptKind → Type 0

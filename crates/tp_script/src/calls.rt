@@ -363,8 +363,8 @@ fn object_at(line: Line, locals: &[u64; 32]) -> ObjectId
     ObjectId(if number <= 65_535 { number as u32 } else { 0 })
 }
 
-// The number that a name stands for.
-fn number_at(meaning: Meaning, locals: &[u64; 32]) -> u64
+/// The number that a name stands for, where the local names stand for these.
+pub fn number_at(meaning: Meaning, locals: &[u64; 32]) -> u64
     ensures { result ≡ number_at meaning locals.now }
 {
     let number = meaning.number;

@@ -19,14 +19,20 @@
 
 mod calls;
 mod fault;
+mod marks;
+mod named;
+mod numbered;
 mod parse;
 mod routines;
 mod script;
 
+pub use calls::number_at;
 pub use fault::ScriptFault;
+pub use marks::{Act, Mark};
+pub use named::name_on;
 pub use routines::{Part, Progress, Routines};
 pub use script::{
-    Script, no_fault_in_a_script, no_line_begins_so, one_fault_a_text, one_script_a_text,
-    parse_script,
+    Script, no_fault_in_a_script, no_line_begins_so, one_fault_a_text, one_reading_a_text,
+    one_script_a_text, parse_script,
 };
 pub use script_lines::ScriptKind;

@@ -3,9 +3,10 @@
 ghost use Rattle.std.specs.Prelude.{◌≡◌, ◌+◌, ◌≤◌, ◌<◌, ◌^◌, [], IfErr, IfOk, MatchResult, OnOk, length, vec_len};
 ghost use Rattle.script_lines.specs.Texts.{lines_of, words_from};
 ghost use Rattle.tp_script.specs.Answers.{IsAdded, IsLineFaultAt, IsScriptFault};
-ghost use Rattle.tp_script.specs.Scripts.{IsScript, is_local, known_after, named_by, sort_made, sort_of_kind, with_routine, with_routine_behind, with_routine_name, with_routines};
+ghost use Rattle.tp_script.specs.Scripts.{AreLinesOf, is_local, known_after, named_by, sort_made, sort_of_kind, with_routine, with_routine_behind, with_routine_name, with_routines};
 
 use crate::fault::ScriptFault;
+use crate::numbered::NumberedLine;
 use script_lines::{
     Known, Line, Meaning, Named, ScriptKind, Sort, State, Table, Word, is_blank, is_name,
     next_line, next_word, read_line,
@@ -14,16 +15,16 @@ use std::alloc::{AllocError, Global};
 use tp_base::calls::Kind;
 
 /// Reads the lines of a whole script. At a fault what was read is lost.
-pub fn read_lines(alloc: Global, bytes: &[u8]) -> Result<Vec<Line>, ScriptFault>
+pub fn read_lines(alloc: Global, bytes: &[u8]) -> Result<Vec<NumberedLine>, ScriptFault>
     requires { length bytes.now + 1 < 2 ^ 32 }
-    ensures place { MatchResult result (λ lines. IsScript bytes.now lines.items) (IsScriptFault bytes.now) }
-    ensures few { IfOk result (λ lines. vec_len lines ≤ length bytes.now) }
+    ensures place { MatchResult result (λ rows. AreLinesOf bytes.now rows.items) (IsScriptFault bytes.now) }
+    ensures few { IfOk result (λ rows. vec_len rows ≤ length bytes.now) }
 {
     let mut routines = Table::new(alloc);
     let Ok(count) = add_routines(&mut routines, bytes) else {
         return Err(ScriptFault::NoMemory);
     };
-    let Ok(mut lines) = Vec::with_capacity(alloc, count) else {
+    let Ok(mut rows) = Vec::with_capacity(alloc, count) else {
         return Err(ScriptFault::NoMemory);
     };
     let mut known = Known {
@@ -34,7 +35,7 @@ pub fn read_lines(alloc: Global, bytes: &[u8]) -> Result<Vec<Line>, ScriptFault>
     let mut rest = bytes;
     let mut number: u32 = 1;
     while let Some((text, behind)) = next_line(rest) {
-        match add_line(&mut known, &mut lines, number, text) {
+        match add_line(&mut known, &mut rows, number, text) {
             Ok(()) => {}
             Err(fault) => return Err(fault),
         }
@@ -48,20 +49,20 @@ pub fn read_lines(alloc: Global, bytes: &[u8]) -> Result<Vec<Line>, ScriptFault>
             kind: ScriptKind::Unclosed,
         });
     }
-    Ok(lines)
+    Ok(rows)
 }
 
 // Adds the line of this number, if it isn't blank.
 fn add_line<'a>(
     known: &mut Known<'a>,
-    lines: &mut Vec<Line>,
+    rows: &mut Vec<NumberedLine>,
     number: u32,
     text: &'a [u8],
 ) -> Result<(), ScriptFault>
     requires { length text.now + 1 < 2 ^ 32 }
-    ensures ok { OnOk result (IsAdded known.old lines.old.items text.now known.new lines.new.items) }
+    ensures ok { OnOk result (IsAdded known.old rows.old.items number text.now known.new rows.new.items) }
     ensures err { IfErr result (IsLineFaultAt known.old number text.now) }
-    ensures few { OnOk result (vec_len lines.new ≤ vec_len lines.old + 1) }
+    ensures few { OnOk result (vec_len rows.new ≤ vec_len rows.old + 1) }
 {
     if is_blank(text) {
         return Ok(());
@@ -76,7 +77,11 @@ fn add_line<'a>(
             });
         }
     };
-    if lines.push(read.line).is_err() {
+    let row = NumberedLine {
+        number,
+        line: read.line,
+    };
+    if rows.push(row).is_err() {
         return Err(ScriptFault::NoMemory);
     }
     if note(known, read.line, read.name).is_err() {
@@ -191,6 +196,7 @@ fn sort_made(head: Word, kind: Kind) -> Sort
         Word::Semaphore => Sort::Semaphore,
         Word::Mutex => Sort::Mutex,
         Word::Section => Sort::Section,
+        Word::Memory => Sort::Memory,
         Word::Routine => Sort::Routine,
         Word::IssueIo => Sort::Operation,
         _ => sort_of_kind(kind),

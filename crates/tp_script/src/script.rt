@@ -1,6 +1,6 @@
 //! A script, whose parts are read from its lines.
 
-ghost use Rattle.std.specs.Prelude.{◌≡◌, ◌+◌, ◌<◌, ◌≤◌, ◌^◌, ◌++◌, ◌∷◌, [], IfOk, IfSome, ℕ, List, IfErr, OnOk, if◌then◌else◌, length, vec_len};
+ghost use Rattle.std.specs.Prelude.{◌≡◌, ◌+◌, ◌<◌, ◌≤◌, ◌^◌, ◌++◌, ◌∷◌, [], IfOk, IfSome, ℕ, List, IfErr, OnOk, drop, if◌then◌else◌, length, vec_len};
 ghost use Rattle.std.specs.Option.{option_copied};
 ghost use Rattle.script_lines.specs.declared.fault.ScriptKind.{ScriptKind};
 ghost use Rattle.script_lines.specs.declared.judge.Known.{Known};
@@ -8,7 +8,9 @@ ghost use Rattle.script_lines.specs.declared.line.Line.{Line};
 ghost use Rattle.script_lines.specs.Readings.{Goes, IsLineRead, Steps, Trail, first_trail};
 ghost use Rattle.script_lines.specs.Texts.{Spot};
 ghost use Rattle.tp_script.specs.Answers.{IsScriptFault, IsThat};
-ghost use Rattle.tp_script.specs.Scripts.{IsFaultIn, IsScript, is_local};
+ghost use Rattle.tp_script.specs.Parsed.{Parsed, parsed};
+ghost use Rattle.tp_script.specs.Parts.{group_line, line_of, marks_behind, may_refuse, memory_line, object_line, operations, part_marks};
+ghost use Rattle.tp_script.specs.Scripts.{IsFaultIn, IsParsed, IsScript, is_local};
 ghost use Rattle.tp_base.specs.Ranges.{IsCallInRange};
 ghost use Rattle.tp_script.specs.Calls.{IsOfPart};
 ghost use Rattle.tp_script.specs.Machines.{HasFewClients, NeverWaitsAtFirst};
@@ -16,6 +18,8 @@ ghost use Rattle.tp_script.specs.Nexts.{call_at, clients_of, line_after, line_at
 
 use crate::calls::{acts, begins_wait, call_of, calls_in, is_asked, is_met, poll_by};
 use crate::fault::ScriptFault;
+use crate::marks::{Mark, marks_between};
+use crate::numbered::{Among, NumberedLine, marks_of, numbers_among, played_lines};
 use crate::parse::{is_local, read_lines};
 use crate::routines::{Part, Progress, Routines};
 use script_lines::{Line, Word};
@@ -31,41 +35,58 @@ pub enum Opening {
     Routine,
 }
 
-/// A script: its lines, and where its clients and routines begin.
+/// A script: the lines that are played, and what it says besides; and where its clients and routines begin.
 #[derive(Drop)]
 pub struct Script {
     lines: Vec<Line>,
+    numbers: Vec<u32>,
+    marks: Vec<Mark>,
+    memories: Vec<u32>,
+    objects: Vec<u32>,
+    groups: Vec<u32>,
     clients: Vec<u32>,
     routines: Vec<u32>,
 }
 
 impl Model for Script {
-    ghost use Rattle.std.specs.Prelude.{List};
-    ghost use Rattle.script_lines.specs.declared.line.Line.{Line};
+    ghost use Rattle.tp_script.specs.Parsed.{Parsed};
 
-    ghost Value = { List Line };
+    ghost Value = { Parsed };
 
     ghost use Rattle.tp_script.specs.Kept.{IsKept};
 
-    ghost view = { λ script. script.lines.items };
+    ghost view = { λ script. record {
+      lines = script.lines.items;
+      numbers = script.numbers.items;
+      marks = script.marks.items;
+      memories = script.memories.items;
+      objects = script.objects.items;
+      groups = script.groups.items;
+    } };
 
-    ghost invariant = { λ script. IsKept script.lines.items script.clients.items script.routines.items };
+    ghost invariant = { λ script. IsKept script.lines.items script.marks.items script.memories.items script.clients.items script.routines.items };
 }
 
 impl Script {
     /// The script of these lines.
     ///
     /// An `AllocError` comes where memory is refused.
-    pub(crate) fn new(alloc: Global, lines: Vec<Line>) -> Result<Script, AllocError>
-        requires { vec_len lines + 1 < 2 ^ 32 }
-        ensures { IfOk result (λ script. script ≡ lines.items) }
+    pub(crate) fn new(alloc: Global, rows: &[NumberedLine]) -> Result<Script, AllocError>
+        requires { length rows.now + 1 < 2 ^ 32 }
+        ensures { IfOk result (λ script. script ≡ parsed rows.now) }
     {
+        let lines = played_lines(alloc, rows)?;
         let mut first = Vec::new(alloc);
         first.push(0)?;
         let clients = add_places(first, &lines, Opening::Client)?;
         let routines = add_places(Vec::new(alloc), &lines, Opening::Routine)?;
         Ok(Script {
             lines,
+            numbers: numbers_among(alloc, rows, Among::Played)?,
+            marks: marks_of(alloc, rows)?,
+            memories: numbers_among(alloc, rows, Among::Memories)?,
+            objects: numbers_among(alloc, rows, Among::Objects)?,
+            groups: numbers_among(alloc, rows, Among::Groups)?,
             clients,
             routines,
         })
@@ -73,15 +94,88 @@ impl Script {
 
     /// How many clients there are, with the one that makes the declarations: client 1.
     pub fn clients(&self) -> u32
-        ensures { result ≡ clients_of self.now }
+        ensures { result ≡ clients_of self.now.lines }
     {
         self.clients.len() as u32
+    }
+
+    /// How many memories are declared.
+    pub fn memories(&self) -> u32
+        ensures { result ≡ length self.now.memories }
+    {
+        self.memories.len() as u32
+    }
+
+    /// Whether the operation of a part that is so many operations behind its first may be refused.
+    pub fn may_refuse(&self, part: Part, op: u32) -> bool
+        ensures { result ≡ may_refuse self.now part op }
+    {
+        match self.line_at(part, op) {
+            Some(line) => line.may_refuse,
+            None => false,
+        }
+    }
+
+    /// The line of the text where the operation of a part stands that is so many operations behind its first.
+    pub fn line(&self, part: Part, op: u32) -> Option<u32>
+        ensures { result ≡ line_of self.now part op }
+    {
+        let place = self.place_of(part)?;
+        self.numbers.get(place as usize + op as usize).copied()
+    }
+
+    /// The marks that stand behind so many operations of a part, and before the next one.
+    pub fn marks(&self, part: Part, made: u32) -> &[Mark]
+        ensures { result.now ≡ marks_behind self.now part made }
+    {
+        match self.place_of(part) {
+            Some(place) => {
+                let place = u64::from(place) + u64::from(made);
+                marks_between(&self.marks, place, place)
+            }
+            None => &[],
+        }
+    }
+
+    /// All marks of a part.
+    pub fn part_marks(&self, part: Part) -> &[Mark]
+        ensures { result.now ≡ part_marks self.now part }
+    {
+        match self.place_of(part) {
+            Some(place) => {
+                let count = operations(lines_behind(&self.lines, place));
+                let place = u64::from(place);
+                marks_between(&self.marks, place, place + count as u64)
+            }
+            None => &[],
+        }
+    }
+
+    /// The line of the text where the memory of this number is declared, from 1.
+    pub fn memory_line(&self, number: u32) -> Option<u32>
+        ensures { result ≡ memory_line self.now number }
+    {
+        numbered_place(&self.memories, number)
+    }
+
+    /// The line where the object of this number is declared. One that an operation makes has none.
+    pub fn object_line(&self, number: u32) -> Option<u32>
+        ensures { result ≡ object_line self.now number }
+    {
+        numbered_place(&self.objects, number)
+    }
+
+    /// The line where the group of this number is declared.
+    pub fn group_line(&self, number: u32) -> Option<u32>
+        ensures { result ≡ group_line self.now number }
+    {
+        numbered_place(&self.groups, number)
     }
 
     // The line of a part that is so many lines behind its first, if it makes a call.
     #[inline(always)]
     fn line_at(&self, part: Part, op: u32) -> Option<&Line>
-        ensures value { option_copied result ≡ line_at self.now part op }
+        ensures value { option_copied result ≡ line_at self.now.lines part op }
         ensures small { IfSome result (λ _. op + 1 < 2 ^ 32) }
     {
         let place = self.place_of(part)?;
@@ -90,7 +184,7 @@ impl Script {
     }
 
     fn place_of(&self, part: Part) -> Option<u32>
-        ensures { result ≡ place_of self.now part }
+        ensures { result ≡ place_of self.now.lines part }
     {
         match part {
             Part::Client(number) => numbered_place(&self.clients, number),
@@ -101,27 +195,33 @@ impl Script {
 
 /// Reads a text as a script.
 ///
-/// The text is a script exactly where its lines can be read (`IsScript`), and is then the script of these lines. `At` tells
+/// The text is a script exactly where its lines can be read (`IsParsed`), and is then the script of these lines. `At` tells
 /// the first fault of any other: its line, the column of the first word that no line here goes on by, or where a word is
 /// lacking, and why. `NoMemory` comes where memory is refused.
 pub fn parse_script(alloc: Global, bytes: &[u8]) -> Result<Script, ScriptFault>
     requires { length bytes.now + 1 < 2 ^ 32 }
-    ensures ok { IfOk result (IsScript bytes.now) }
+    ensures ok { IfOk result (λ script. IsScript bytes.now script.lines) }
+    ensures parsed { IfOk result (IsParsed bytes.now) }
     ensures err { IfErr result (IsScriptFault bytes.now) }
     ensures only { (lines : List Line) → IsScript bytes.now lines → IsThat lines result }
     // What a machine has to know of it: how many clients it has, and that client 1 waits for nothing.
-    ensures clients { IfOk result HasFewClients }
-    ensures calm { IfOk result NeverWaitsAtFirst }
+    ensures clients { IfOk result (λ script. HasFewClients script.lines) }
+    ensures calm { IfOk result (λ script. NeverWaitsAtFirst script.lines) }
 {
-    let lines = match read_lines(alloc, bytes) {
-        Ok(lines) => lines,
+    let rows = match read_lines(alloc, bytes) {
+        Ok(rows) => rows,
         Err(fault) => return Err(fault),
     };
-    match Script::new(alloc, lines) {
+    match Script::new(alloc, &rows) {
         Ok(script) => Ok(script),
         Err(_) => Err(ScriptFault::NoMemory),
     }
 }
+
+/// A text is read in one way at most.
+pub fn one_reading_a_text()
+    ensures { (text : List ℕ) (script other : Parsed) → IsParsed text script → IsParsed text other → script ≡ other }
+{}
 
 /// A text is one script at most.
 pub fn one_script_a_text()
@@ -146,11 +246,11 @@ pub fn no_line_begins_so()
 {}
 
 impl Routines for Script {
-    ghost use Rattle.tp_script.specs.Nexts.{next_at, progress_after};
+    ghost use Rattle.tp_script.specs.Parts.{next_in, progress_in};
 
-    ghost next_of = { next_at };
+    ghost next_of = { next_in };
 
-    ghost after_of = { progress_after };
+    ghost after_of = { progress_in };
 
     #[inline(always)]
     fn next(&self, part: Part, at: &Progress) -> Option<Call> {
@@ -191,6 +291,32 @@ fn add_places(
         }
     }
     Ok(places)
+}
+
+// The lines behind so many.
+fn lines_behind(lines: &[Line], place: u32) -> &[Line]
+    ensures { result.now ≡ drop place lines.now }
+{
+    let place = place as usize;
+    if place <= lines.len() {
+        let (_, behind) = lines.split_at(place);
+        behind
+    } else {
+        &[]
+    }
+}
+
+// How many operations stand in front.
+fn operations(lines: &[Line]) -> usize
+    ensures value { result ≡ operations lines.now }
+    ensures few { result ≤ length lines.now }
+{
+    for (index, line) in lines.iter().enumerate() {
+        if !acts(line.head) {
+            return index;
+        }
+    }
+    lines.len()
 }
 
 // The place with this number, counted from 1.

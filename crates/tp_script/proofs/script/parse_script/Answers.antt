@@ -1,6 +1,5 @@
-use Rattle.std.proofs.Common.{sym, subst}
-use Rattle.tp_script.specs.Scripts.{IsScript}
-use Rattle.tp_script.specs.Machines.{HasFewClients, NeverWaitsAtFirst}
+use Rattle.std.proofs.Common.{refl, ap, ◌∙◌}
+use Rattle.tp_script.specs.Parsed.{parsed}
 use Rattle.tp_script.proofs.ClientFacts.{few_clients}
 use Rattle.tp_script.proofs.DeclarationFacts.{first_never_waits}
 use Rattle.tp_script.proofs.Unique.{one_script, only_fault}
@@ -11,12 +10,12 @@ returns-in-Err-clause-only c = only_fault c.args.bytes.now c.in-Err.fault c.in-E
 
 pub returns-in-Ok-new-clause-only : goal.returns-in-Ok-new-clause-only
 returns-in-Ok-new-clause-only c lines script =
-    one_script c.args.bytes.now c.in-Ok-new.script lines (subst (IsScript c.args.bytes.now) (sym c.in-Ok-new.ensures) c.in-Ok.ensures.place) script
+    one_script c.args.bytes.now c.in-Ok-new.script.lines lines (c.in-Ok-new.script, (c.in-Ok.rows.items, c.in-Ok.ensures.place, c.in-Ok-new.ensures ∙ ap parsed c.deref.ensures.value), refl) script
 
 pub returns-in-Ok-new-clause-clients : goal.returns-in-Ok-new-clause-clients
 returns-in-Ok-new-clause-clients c =
-    subst HasFewClients (sym c.in-Ok-new.ensures) (few_clients c.args.bytes.now c.in-Ok.lines.items c.in-Ok.ensures.place)
+    few_clients c.args.bytes.now c.in-Ok-new.script.lines (c.in-Ok-new.script, (c.in-Ok.rows.items, c.in-Ok.ensures.place, c.in-Ok-new.ensures ∙ ap parsed c.deref.ensures.value), refl)
 
 pub returns-in-Ok-new-clause-calm : goal.returns-in-Ok-new-clause-calm
 returns-in-Ok-new-clause-calm c =
-    subst NeverWaitsAtFirst (sym c.in-Ok-new.ensures) (first_never_waits c.args.bytes.now c.in-Ok.lines.items c.in-Ok.ensures.place)
+    first_never_waits c.args.bytes.now c.in-Ok-new.script.lines (c.in-Ok-new.script, (c.in-Ok.rows.items, c.in-Ok.ensures.place, c.in-Ok-new.ensures ∙ ap parsed c.deref.ensures.value), refl)
