@@ -1,5 +1,5 @@
 //! Tests of the crates that need no machine: of `tp_lines` and what it stands on, of `tp_script`, of `tp_edge`, of
-//! `callback_env`, and of a heap of a million keys. They have a crate of their own, since a crate that has tests is
+//! `callback_env`, of a heap of a million keys, and of a search through the states of two jugs. They have a crate of their own, since a crate that has tests is
 //! proved again for them.
 //!
 //! What a call answers is said by its contract. A test calls public functions with memory enough, where a contract leaves
@@ -18,7 +18,10 @@ mod edge;
 mod environments;
 #[cfg(test)]
 mod heap;
+pub mod jugs;
 #[cfg(test)]
 mod lines;
 #[cfg(test)]
 mod scripts;
+#[cfg(test)]
+mod searches;
