@@ -7,9 +7,10 @@
 //!
 //! ```text
 //! // Two jugs, one for 3 and one for 5: a move fills one, empties one, or pours one into the other.
-//! search(alloc, &Jugs { goal: 4 }, 100, 100)      // Bad([1, 5, 2, 5, 1, 5])
-//! search(alloc, &Jugs { goal: 6 }, 100, 100)      // None { states: 16 }
-//! search(alloc, &Jugs { goal: 6 }, 8, 100)        // GaveUp { states: 8, deep: 3 }
+//! let mut measures = Measures::new();
+//! search(alloc, &Jugs { goal: 4 }, 100, 100, &mut measures)      // Bad([1, 5, 2, 5, 1, 5])
+//! search(alloc, &Jugs { goal: 6 }, 100, 100, &mut measures)      // None { states: 16 }
+//! search(alloc, &Jugs { goal: 6 }, 8, 100, &mut measures)        // GaveUp { states: 8, deep: 3 }
 //! ```
 //!
 //! States are known by their keys: of states with one key only the first that is met is gone on with. Where
@@ -90,21 +91,43 @@ pub enum Answer {
     GaveUp { states: u32, deep: u32 },
 }
 
+/// What a search took. No clause speaks of it.
+#[derive(Clone, Copy)]
+pub struct Measures {
+    /// How many states were met.
+    pub states: u64,
+    /// How many moves led to a state, or to what is looked for.
+    pub steps: u64,
+}
+
+impl Measures {
+    /// Before a search.
+    pub fn new() -> Measures {
+        Measures {
+            states: 0,
+            steps: 0,
+        }
+    }
+}
+
 /// Looks for the fewest moves from the first state that come to what is looked for.
 ///
 /// It meets at most `most` states with keys of their own, and looks at no more than `deepest` moves one
-/// after another. It gives up only where there are more states, or where `deepest` is reached.
+/// after another. It gives up only where there are more states, or where `deepest` is reached. `measures` has what it
+/// took added.
 pub fn search<S: System>(
     alloc: Global,
     system: &S,
     most: u32,
     deepest: u32,
+    measures: &mut Measures,
 ) -> Result<Answer, AllocError>
     requires { 1 ≤ most }
     ensures answers { IfOk result (Answers (S.rules system.now)) }
     ensures gives_up { IfOk result (GivesUpFor (S.rules system.now) most deepest) }
 {
     let mut search = begin(alloc, system, most)?;
+    measures.states = measures.states.wrapping_add(1);
     for at in 0..most {
         let depth = search.depth(at);
         let Some(state) = search.waiting.pop_front() else {
@@ -116,7 +139,7 @@ pub fn search<S: System>(
                 deep: deepest,
             });
         }
-        if let Some(answer) = expand(alloc, system, &mut search, &state, at, depth)? {
+        if let Some(answer) = expand(alloc, system, &mut search, &state, at, depth, measures)? {
             return Ok(answer);
         }
     }

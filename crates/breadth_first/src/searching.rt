@@ -5,7 +5,7 @@ ghost use Rattle.breadth_first.specs.declared.Next.TheVariants.{To as LeadsTo};
 ghost use Rattle.breadth_first.specs.Rules.{move_of};
 ghost use Rattle.breadth_first.specs.Searched.{next_origin, origin_of, way_to, Entry, IsFound, IsSearched, IsWithin};
 
-use crate::{Answer, Next, System};
+use crate::{Answer, Measures, Next, System};
 use indexmap::IndexMap;
 use std::alloc::{AllocError, Global};
 use std::collections::VecDeque;
@@ -99,6 +99,7 @@ fn meet<S: System>(
     search: &mut Search<S::State>,
     next: S::State,
     origin: Origin,
+    measures: &mut Measures,
 ) -> Result<Option<Answer>, AllocError>
     requires { 0 < origin.depth }
     ensures { (state : S.State) → IsWithin (S.rules system.now) search.old.most origin state search.old → move_of (S.rules system.now) state origin.by ≡ LeadsTo next → IfOk result (λ found. MatchOption found (IsWithin (S.rules system.now) search.old.most (next_origin origin) state search.new) (IsFound (S.rules system.now) search.old.most)) }
@@ -115,6 +116,7 @@ fn meet<S: System>(
     }
     search.origins.insert(key, origin)?;
     search.waiting.push_back(next)?;
+    measures.states = measures.states.wrapping_add(1);
     Ok(None)
 }
 
@@ -126,6 +128,7 @@ fn make<S: System>(
     search: &mut Search<S::State>,
     state: &S::State,
     origin: Origin,
+    measures: &mut Measures,
 ) -> Result<Option<Answer>, AllocError>
     requires width { origin.by < (S.rules system.now).width }
     requires within { IsWithin (S.rules system.now) search.old.most origin state.now search.old }
@@ -136,9 +139,13 @@ fn make<S: System>(
         Next::Bad => {
             let mut path = way_back(alloc, &search.origins, origin.from, origin.depth - 1)?;
             path.push(origin.by)?;
+            measures.steps = measures.steps.wrapping_add(1);
             Ok(Some(Answer::Bad(path)))
         }
-        Next::To(next) => meet(alloc, system, search, next, origin),
+        Next::To(next) => {
+            measures.steps = measures.steps.wrapping_add(1);
+            meet(alloc, system, search, next, origin, measures)
+        }
     }
 }
 
@@ -151,6 +158,7 @@ pub(crate) fn expand<S: System>(
     state: &S::State,
     at: u32,
     depth: u32,
+    measures: &mut Measures,
 ) -> Result<Option<Answer>, AllocError>
     requires deep { depth + 1 < 2 ^ 32 }
     requires within { IsWithin (S.rules system.now) search.old.most (origin_of at 0 (depth + 1)) state.now search.old }
@@ -162,7 +170,7 @@ pub(crate) fn expand<S: System>(
             by,
             depth: depth + 1,
         };
-        if let Some(answer) = make(alloc, system, search, state, origin)? {
+        if let Some(answer) = make(alloc, system, search, state, origin, measures)? {
             return Ok(Some(answer));
         }
     }
