@@ -1,5 +1,5 @@
 -- What a search keeps: the states that were met, in the order in which they were, and what is gone through of them.
-use Rattle.std.specs.Prelude.{◌≡◌, ◌≢◌, ◌⊎◌, ℕ, zero, suc, ◌+◌, ◌<◌, ◌≤◌, List, [], ◌∷◌, ◌++◌, All, Option, None, Some, drop, length, map, slice_get}
+use Rattle.std.specs.Prelude.{◌≡◌, ◌≢◌, ◌⊎◌, ℕ, zero, suc, ◌+◌, ◌<◌, ◌≤◌, List, [], ◌∷◌, ◌++◌, Option, None, Some, drop, length, map, slice_get}
 use Rattle.std.specs.Global.{Vec}
 use Rattle.std.specs.List.{AllPairs}
 use Rattle.breadth_first.specs.declared.Next.{Next}
@@ -29,6 +29,9 @@ pub record Met (S : Type 0) : Type 0 where
   pub state : S
   pub path : List ℕ
 
+abbrev pub keys_of : {S : Type 0} → Rules S → List (Met S) → List (List ℕ)
+keys_of {S} r mets = map (λ (m : Met S). r.key m.state) mets
+
 module _ {S : Type 0} (mets : List (Met S)) where
   -- an origin tells by which move the state was met, of which state before it, and how many moves that makes
   pub record Tells (origin : Origin) (met : Met S) : Type 0 where
@@ -37,7 +40,7 @@ module _ {S : Type 0} (mets : List (Met S)) where
 
   -- the map has the keys of what was met, each with its origin
   pub record IsHeld (r : Rules S) (entries : List Entry) : Type 0 where
-    pub keys : map (λ (e : Entry). e.0.items) entries ≡ map (λ (m : Met S). r.key m.state) mets
+    pub keys : map (λ (e : Entry). e.0.items) entries ≡ keys_of r mets
     pub told : (i : ℕ) (e : Entry) (m : Met S) → slice_get entries i ≡ Some e → slice_get mets i ≡ Some m → Tells e.1 m
 
 module _ {S : Type 0} (r : Rules S) (mets : List (Met S)) where
@@ -54,8 +57,8 @@ module _ {S : Type 0} (r : Rules S) (mets : List (Met S)) where
   -- what is so of the states that were met
   pub record AreMet (at by : ℕ) : Type 0 where
     pub begun : slice_get mets 0 ≡ Some (record { state = r.first; path = [] })
-    pub reached : All (λ (m : Met S). comes_to r m.path ≡ To m.state) mets
-    pub apart : AllPairs (λ (m n : Met S). r.key m.state ≢ r.key n.state) mets
+    pub reached : (i : ℕ) (m : Met S) → slice_get mets i ≡ Some m → comes_to r m.path ≡ To m.state
+    pub apart : AllPairs (λ a b. a ≢ b) (keys_of r mets)
     pub rising : (i j : ℕ) (m n : Met S) → i ≤ j → slice_get mets i ≡ Some m → slice_get mets j ≡ Some n → length m.path ≤ length n.path
     pub near : (i : ℕ) (m n : Met S) → slice_get mets at ≡ Some m → slice_get mets i ≡ Some n → length n.path ≤ length m.path + 1
     pub made : (i move : ℕ) (m : Met S) → IsMade at by i move → slice_get mets i ≡ Some m → IsLedTo (length m.path + 1) (move_of r m.state move)

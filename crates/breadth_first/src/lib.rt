@@ -1,4 +1,21 @@
-//! A search of a system of states, breadth first.
+//! A search through the states of a system, breadth first, and what its answer says of all moves.
+//!
+//! A `System` has a first state, and so many moves of each state, by number. A move leads nowhere, to a
+//! state, or to what is looked for (`Bad`). `search` tells the fewest moves that come to what is looked
+//! for, or that no moves do, or, where it gives up, how many moves it looked ahead at least. What it says
+//! holds of all moves, not of those alone that it made: `Answers` says so of the system's `rules`.
+//!
+//! ```text
+//! // Two jugs, one for 3 and one for 5: a move fills one, empties one, or pours one into the other.
+//! search(alloc, &Jugs { goal: 4 }, 100, 100)      // Bad([1, 5, 2, 5, 1, 5])
+//! search(alloc, &Jugs { goal: 6 }, 100, 100)      // None { states: 16 }
+//! search(alloc, &Jugs { goal: 6 }, 8, 100)        // GaveUp { states: 8, deep: 3 }
+//! ```
+//!
+//! States are known by their keys: of states with one key only the first that is met is gone on with. Where
+//! keys tell all states apart, an `impl` gives `IsSame` as `like`, `same_itself`, `same_kept` with the lemma
+//! that its keys do, and `keeps_itself` (`specs/Same`). Where they don't, `like` says which states stand for
+//! each other, and the laws that each move of the one has a move of the other that does the same.
 
 #![tactic(auto)]
 
@@ -69,11 +86,14 @@ pub enum Answer {
     Bad(Vec<u32>),
     /// No moves come to what is looked for. So many states were met.
     None { states: u32 },
-    /// No moves come to what is looked for that are at most `deep`. So many states were met.
+    /// No more than `deep` moves come to what is looked for. So many states were met.
     GaveUp { states: u32, deep: u32 },
 }
 
-/// Looks for moves that come to what is looked for.
+/// Looks for the fewest moves from the first state that come to what is looked for.
+///
+/// It meets at most `most` states with keys of their own, and looks at no more than `deepest` moves one
+/// after another. It gives up only where there are more states, or where `deepest` is reached.
 pub fn search<S: System>(
     alloc: Global,
     system: &S,
