@@ -15,10 +15,14 @@
 mod fault;
 mod noted;
 
-ghost use Rattle.std.specs.Prelude.{◌≡◌, List, ◌++◌};
+ghost use Rattle.std.specs.Prelude.{◌≡◌, ℕ, List, ◌++◌};
+ghost use Rattle.breadth_first.specs.Answers.{Answers};
+ghost use Rattle.breadth_first.specs.declared.Answer.{Answer};
 ghost use Rattle.tp_base.specs.declared.answers.Entry.{Entry};
 ghost use Rattle.tp_base.specs.declared.limits.Limits.{Limits};
 ghost use Rattle.tp_explore.specs.Alike.{AreAlike};
+ghost use Rattle.tp_explore.specs.Boards.{rules_of, Board};
+ghost use Rattle.tp_explore.specs.Explored.{Explores};
 ghost use Rattle.tp_explore.specs.Faults.{faults_from};
 ghost use Rattle.tp_explore.specs.Legal.{IsLegalAtLast};
 ghost use Rattle.tp_explore.specs.Noted.{Noted};
@@ -41,4 +45,12 @@ pub fn forgetting_loses_nothing()
 #[tactic(auto, using(crate::proofs::Legal::order_legal))]
 pub fn orders_are_legal()
     ensures { (g : Given) (limits : Limits) (history : List Entry) → IsOrder g limits history → IsLegalAtLast limits history }
+{}
+
+/// What a search of boards answers is what there is to say of orders, by whatever key it knows them: the moves of `Bad`
+/// make an order that has a fault, and no shorter one has; `None` says that no order has one; and `GaveUp` that none has
+/// of at most so many entries. It does nothing: who calls it knows this.
+#[tactic(auto, using(crate::proofs::BoardsAlong::searches_tell))]
+pub fn searches_tell_of_orders()
+    ensures { (k : Watched) (limits : Limits) (key : Board → List ℕ) (told : Answer) → Answers (rules_of k limits key) told → Explores k limits told }
 {}
