@@ -7,7 +7,8 @@
 
 function read_script_line(text,    words) {
     if (section == "") section = "c1"
-    if (split(text, words, " ") == 0 || words[1] ~ /^#/) return
+    sub(/^ *try /, "", text)
+    if (split(text, words, " ") == 0 || words[1] ~ /^#/ || words[1] == "memory") return
     if (words[1] == "routine") { routine_name[++routines] = words[2]; section = "r" routines }
     else if (words[1] == "client") section = "c" ++clients + 1
     else if (words[1] == "issue-io") operation_in[section, ++issues[section]] = words[3]

@@ -2,10 +2,11 @@
 # is bad (docs/FORMATS.md, The place of a fault in a script). It says nothing where it sees none.
 
 BEGIN {
-    declarations = "pool group event semaphore mutex section work timer wait io"
+    declarations = "pool group event semaphore mutex section memory work timer wait io"
     operations = "simple submit set-timer set-timer-ex is-timer-set set-wait start-io cancel-io issue-io complete-io complete-next let close wait close-members " \
         "close-group close-pool set-maximum set-minimum set-event reset-event release-semaphore release acquire try-acquire advance " \
-        "times if unless may-run-long disassociate on-return"
+        "times if unless try may-run-long disassociate on-return"
+    marks = "use drop free quiet"
     with_options = "work timer wait io let simple"
     options = "context in priority long persistent group cancel"
     title["work"] = "work object"
@@ -26,6 +27,8 @@ BEGIN {
     want("mutex or section", "release")
     want("kernel object", "acquire try-acquire on-return if unless")
     want("routine", "simple cancel")
+    want("memory", marks)
+    want("object or group", "quiet")
     # what stands at a place that has no name
     put("event 3", "`manual` or `auto`")
     put("event 4", "`set` or `clear`")
@@ -46,7 +49,7 @@ BEGIN {
     put("priority", "`high`, `normal` or `low`")
     # how many words there may be
     most_words(1, "client done may-run-long disassociate")
-    most_words(2, "group mutex section routine submit is-timer-set start-io cancel-io close close-group close-pool set-event reset-event release " \
+    most_words(2, "group mutex section memory " marks " routine submit is-timer-set start-io cancel-io close close-group close-pool set-event reset-event release " \
         "acquire try-acquire advance")
     most_words(3, "issue-io wait set-maximum set-minimum release-semaphore on-return")
     most_words(4, "event semaphore set-wait complete-io complete-next close-members")
@@ -84,16 +87,20 @@ function split_words(text) {
 
 # --- What is known in front of the line
 
-function take_note() {
+function take_note(    first) {
+    first = 1 + (words[1] == "try")
     if (words[1] == "routine" || words[1] == "client") {
         section = words[1]
         begin = NR
         clients += words[1] == "client"
         split("", local)
+        split("", used)
     }
+    if (words[1] == "use") used[words[2]] = NR
+    if (words[1] == "drop") delete used[words[2]]
     if (words[1] == "done") section = ""
-    else if (words[1] == "let") take_local(words[2], words[3])
-    else if (words[1] == "issue-io") take_local(words[3], "operation")
+    else if (words[first] == "let") take_local(words[first + 1], words[first + 2])
+    else if (words[first] == "issue-io") take_local(words[first + 2], "operation")
     else if (section == "" || words[1] == "routine") take_name(words[2], sort[words[2]] = words[1])
 }
 
@@ -106,14 +113,22 @@ function take_name(name, of) {
     what_is[name] = name_of(of)
 }
 
-# The word at the column and its place in the line. Behind `times` and its count, and behind a condition, the place begins anew.
-function take_line(    front, at) {
+# The word at the column and its place in the line. Behind `times` and its count, behind a condition, and behind `try`, the place
+# begins anew.
+function take_line(    front, at, size_of) {
     front = split_words(substr($0, 1, column - 1))
     count = split_words($0)
     place = front + 1
     word = words[place]
     before = words[front]
-    for (at = 1; place > 2 && has("times if unless", words[at]); at += 2) { place -= 2; prefix = words[at] }
+    for (at = 1; has("times if unless try", words[at]); at += size_of) {
+        size_of = words[at] == "try" ? 1 : 2
+        if (place <= size_of) break
+        place -= size_of
+        prefix = words[at]
+        if (prefix ~ /^(if|unless)$/) asked = prefix
+        else stood[prefix]
+    }
     head = words[at]
 }
 
@@ -159,9 +174,12 @@ function sort_of(name) {
 
 # Why a line doesn't begin so, or nothing is repeated or asked for so.
 function cause_of_head() {
-    if (prefix == "times" && has("let issue-io times", word)) return "`" word "` isn't repeated by `times`"
-    if (prefix ~ /^(if|unless)$/ && word == "times") return "`times` and its count stand in front of `" prefix "`"
-    if (prefix ~ /^(if|unless)$/ && has("let issue-io if unless", word)) return "`" word "` doesn't stand behind `" prefix "`"
+    if (prefix && has(marks, word)) return "`" word "` stands at the front of its line"
+    if (asked && word == "times") return "`times` and its count stand in front of `" asked "`"
+    if (asked && has("let issue-io if unless", word)) return "`" word "` doesn't stand behind `" asked "`"
+    if ("try" in stood && word == "times") return "`times` and its count stand in front of `try`"
+    if ("try" in stood && word == "try") return "`try` stands once in a line"
+    if ("times" in stood && has("let issue-io times", word)) return "`" word "` isn't repeated by `times`"
     if (has("may-run-long disassociate on-return", word) && section == "client") return "`" word "` stands in routines alone"
     if (word == "routine" || word == "client" || has(declarations, word) && !has(operations, word)) {
         if (section != "") return "the `done` of the " section " in line " begin " is missing"
@@ -170,8 +188,9 @@ function cause_of_head() {
     }
     if (word == "done") return "no routine and no client is open here"
     if (has(operations, word)) return "an operation stands in a routine or a client, in front of its `done`"
+    if (has(marks, word)) return "`" word "` stands in a routine or a client, in front of its `done`"
     if (prefix) return nearest(operations, "an operation stands here")
-    if (section != "") return nearest(operations " done", "an operation or `done` begins a line here")
+    if (section != "") return nearest(operations " " marks " done", "an operation or `done` begins a line here")
     return nearest(declarations " routine client", "a declaration, `routine` or `client` begins a line here")
 }
 
@@ -205,11 +224,13 @@ function cause_of_option() {
 function wanted_here() {
     if (place == 3 && has("work timer wait io", head) && section == "" || place == 4 && head == "let") return "routine"
     if (place == 3 && head == "set-wait") return "kernel object"
-    if (place == 2 && has(operations, head)) return wanted[head]
+    if (place == 2 && has(operations " " marks, head)) return wanted[head]
     return has("in group cancel", before) && has(with_options, head) ? wanted[before] : ""
 }
 
 function cause_of_name(what) {
+    if (head == "use" && word in used) return "`" word "` is used already, from line " used[word] " on"
+    if (head == "drop" && sort_of(word) == "memory") return "`" word "` isn't used here: `use` stands before `drop`"
     if (word ~ /^[a-z][a-z0-9_]*$/ && word != "none" && !is_name(word)) return "a name is a letter and up to 31 letters, digits and `_` behind it"
     if (!is_name(word)) return "the name of " a(what) "stands here"
     if (word in local || word in sort) return "`" word "` is " a(what_is[word]) "by line " where[word] ", and the name of " a(what) "stands here"

@@ -36,8 +36,9 @@ function draw_script(    rest) {
 
 function draw_section(where, head,    rest) {
     split("", own)
+    split("", used)
     add(head)
-    for (rest = draw(6); rest; rest--) draw_line(draw(4) == 0 ? "once" : where == "routine" && draw(3) == 0 ? "own" : "operation")
+    for (rest = draw(6); rest; rest--) draw_line(draw(4) == 0 ? "mark" : (draw(4) ? "" : "tried ") (draw(4) == 0 ? "once" : where == "routine" && draw(3) == 0 ? "own" : "operation"))
     add("done")
 }
 
@@ -54,14 +55,15 @@ function draw_line(where,    tries, which, line) {
         line = draw_words(which)
         if (lacking && draw(50)) continue
         add(line)
-        if (where == "once") own[sort_made] = own[sort_made] " " fresh
+        if (where ~ /once$/) own[sort_made] = own[sort_made] " " fresh
         else if (fresh) names[sort_made] = names[sort_made] " " fresh
         return
     }
 }
 
 function draw_words(which,    at, line, open, left_out, said) {
-    sort_made = field[which, 1] == "issue-io" ? "operation" : field[which, 1]
+    sort_made = field[which, 1 + (field[which, 1] == "try")]
+    if (sort_made == "issue-io") sort_made = "operation"
     for (at = 1; at <= size[which]; at++) {
         said = field[which, at]
         if (said == "[") { open++; if (!left_out && draw(2)) left_out = open }
@@ -80,6 +82,7 @@ function draw_word(what,    said) {
     else if (what == "NEW" || what == "LOCAL") fresh = said = new_name(substr(sort_made, 1, 1))
     else if (what == "ARMED" && draw(3) == 0) said = "none"
     else if (what == "ROUTINE") said = one_of(names["routine"])
+    else if (what == "UNUSED" || what == "USED") said = known_memory(what)
     else if (what in sorts) said = known_name(sorts[what])
     if (what == "KIND") sort_made = said
     before = said
@@ -96,6 +99,16 @@ function known_name(list,    each, all) {
     for (each = split(list, sorted, " "); each; each--) all = all names[sorted[each]] own[sorted[each]]
     if (all == "") { lacking = 1; return "x" draw(5) }
     return one_of(all)
+}
+
+# The name of a memory that the section uses, or doesn't use. From here on it is otherwise.
+function known_memory(what,    each, at, all) {
+    for (at = split(names["memory"], each, " "); at; at--) if ((each[at] in used) == (what == "USED")) all = all " " each[at]
+    if (all == "") { lacking = 1; return "x" draw(5) }
+    all = one_of(all)
+    if (what == "USED") delete used[all]
+    else used[all]
+    return all
 }
 
 # --- Faults
@@ -143,7 +156,7 @@ function any_word(    which) {
 
 # A name of the script, or of its last section.
 function any_name() {
-    return known_name("pool group event semaphore mutex section work timer wait io operation routine")
+    return known_name("pool group event semaphore mutex section memory work timer wait io operation routine")
 }
 
 function with_byte(line, at, kind,    byte) {

@@ -11,6 +11,7 @@ function tell_script(    number, told) {
     split("", local)
     split("", was_local)
     split("", made)
+    split("", used)
     section = ""
     begun = clients = locals = 0
     # behind the last line feed there is no line
@@ -57,7 +58,8 @@ function fault_of(line,    which) {
 }
 
 function may_stand(where) {
-    if (section != "") return where == "once" || where == "operation" || where == "own" && section == "routine"
+    sub(/^tried /, "", where)
+    if (section != "") return has("once operation mark", where) || where == "own" && section == "routine"
     return where == "declaration" && !begun || where == "routine" && !clients || where == "client" && clients < 15
 }
 
@@ -87,6 +89,7 @@ function goes(here, what, at) {
     if (here in choices) return has(choices[here], what)
     if (here == "DUE") return what == "none" || is_signed(what)
     if (here == "ARMED" && what == "none") return 1
+    if (here == "UNUSED" && what in used || here == "USED" && !(what in used)) return 0
     if (here in sorts) return has(sorts[here], sort_of(what))
     if (here == "ROUTINE") return what in is_routine
     if (here == "NEW") return is_name(what) && !(what in sort) && !(what in was_local) && made[tally(word[1])] < limit(tally(word[1]))
@@ -123,7 +126,7 @@ function tally(head) {
     return has(sorts["OBJECT"], head) ? "object" : has(sorts["KERNEL"], head) ? "kernel" : head
 }
 function limit(of) {
-    return of == "pool" ? 63 : of == "group" ? 255 : of == "kernel" ? 1024 : 65535
+    return of == "pool" ? 63 : of == "memory" ? 64 : of == "group" ? 255 : of == "kernel" ? 1024 : 65535
 }
 
 # The kind of the fault at a word, where `expected` has the fields that may stand there.
@@ -133,7 +136,7 @@ function kind_of(what) {
     if (!is_name(what)) return "Unexpected"
     if (has(expected, "LOCAL")) return sort_of(what) == "-" ? "TooMany" : "NameTwice"
     if (has(expected, "NEW")) return what in sort || what in was_local ? "NameTwice" : "TooMany"
-    if (!expects_name()) return "Unexpected"
+    if (!expects_name() || expects_memory() && sort_of(what) == "memory") return "Unexpected"
     return sort_of(what) != "-" || what in is_routine ? "WrongName" : "UnknownName"
 }
 
@@ -142,15 +145,24 @@ function expects_name(    fields, at) {
     return 0
 }
 
+# A memory that the section doesn't use, or one that it uses.
+function expects_memory() {
+    return has(expected, "UNUSED") || has(expected, "USED")
+}
+
 # What a good line makes known.
 function take_note() {
     if (word[1] == "client") { section = "client"; clients++ }
     if (word[1] == "routine") section = "routine"
     if (section != "") begun = 1
     if (word[1] == "done") section = ""
-    if (word[1] == "routine" || word[1] == "client") { split("", local); locals = 0 }
+    if (word[1] == "routine" || word[1] == "client") { split("", local); split("", used); locals = 0 }
+    if (word[1] == "use") used[word[2]]
+    if (word[1] == "drop") delete used[word[2]]
     if (word[1] == "let") take_local(word[2], word[3])
     else if (word[1] == "issue-io") take_local(word[3], "operation")
+    else if (word[1] == "try" && word[2] == "let") take_local(word[3], word[4])
+    else if (word[1] == "try" && word[2] == "issue-io") take_local(word[4], "operation")
     else if (section == "" && word[1] != "done" || word[1] == "routine") { sort[word[2]] = word[1]; made[tally(word[1])]++ }
 }
 

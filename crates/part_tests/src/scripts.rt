@@ -7,7 +7,7 @@ use std::process::Abort;
 use tp_base::answers::Entry;
 use tp_base::ids::RoutineId;
 use tp_lines::entries::read_entry;
-use tp_script::{Part, Progress, Routines, Script, ScriptFault, parse_script};
+use tp_script::{Act, Part, Progress, Routines, Script, ScriptFault, name_on, parse_script};
 
 // What is told of a text stands before it, with `--` between each two: one text, which costs the check the same however
 // long it is.
@@ -368,6 +368,189 @@ done
 2 1 Unexpected
 client
 routine r
+done
+--
+2 clients
+memory m
+work w r
+routine r
+use m
+drop m
+use m
+done
+client
+use m
+free m
+done
+--
+2 8 WrongName
+memory m
+work w m
+--
+2 8 NameTwice
+group m
+memory m
+--
+2 1 Unexpected
+memory m
+use m
+--
+3 1 Unexpected
+routine r
+done
+memory m
+--
+3 9 Unexpected
+memory m
+client
+times 2 use m
+done
+--
+3 5 Unexpected
+memory m
+client
+try free m
+done
+--
+4 6 Unexpected
+memory m
+event e auto clear
+client
+if e quiet e
+done
+--
+3 5 UnknownName
+memory m
+client
+use n
+done
+--
+4 1 Unexpected
+work w r
+routine r
+done
+use w
+--
+5 5 WrongName
+work w r
+routine r
+done
+client
+use w
+done
+--
+4 6 WrongName
+memory m
+routine r
+let w work r
+free w
+done
+--
+4 5 Unexpected
+memory m
+client
+use m
+use m
+done
+--
+3 6 Unexpected
+memory m
+client
+drop m
+done
+--
+7 6 Unexpected
+memory m
+client
+use m
+done
+client
+free m
+drop m
+done
+--
+3 7 WrongName
+memory m
+client
+quiet m
+done
+--
+2 7 WrongName
+routine r
+quiet r
+done
+--
+3 7 WrongName
+event e auto clear
+routine r
+quiet e
+--
+1 clients
+group g
+work w r
+routine r
+try let x timer r
+quiet x
+quiet w
+quiet g
+done
+--
+5 5 Unexpected
+work w r
+routine r
+done
+client
+try try submit w
+done
+--
+5 5 Unexpected
+work w r
+routine r
+done
+client
+try times 2 submit w
+done
+--
+2 clients
+event e auto clear
+work w r
+routine r
+try disassociate
+done
+client
+times 2 try submit w
+times 2 try unless e submit w
+times 2 if e try submit w
+try if e submit w
+unless e try submit w
+done
+--
+3 10 Unexpected
+event e auto clear
+client
+try if e try advance 1
+done
+--
+3 10 Unexpected
+event e auto clear
+client
+if e try if e advance 1
+done
+--
+2 13 Unexpected
+routine r
+times 2 try let w work r
+done
+--
+3 10 Unexpected
+event e auto clear
+routine r
+if e try let w work r
+done
+--
+2 4 Unexpected
+client
+try
 done";
 
 #[test]
@@ -408,7 +591,7 @@ fn told_of(alloc: Global, text: &str) -> Result<String, AllocError> {
 
 // Names that are made by lines of one kind: how many there may be, the lines around each name and around all of them, and
 // what is told of one more.
-const LIMITS: [(u32, &str, &str, &str, &str, &str); 5] = [
+const LIMITS: [(u32, &str, &str, &str, &str, &str); 6] = [
     (63, "", "pool p", "\n", "", "64 6 TooMany"),
     (255, "", "group g", "\n", "", "256 7 TooMany"),
     (
@@ -420,6 +603,7 @@ const LIMITS: [(u32, &str, &str, &str, &str, &str); 5] = [
         "65536 7 TooMany",
     ),
     (1_024, "", "section s", "\n", "", "1025 9 TooMany"),
+    (64, "", "memory m", "\n", "", "65 8 TooMany"),
     (
         32,
         "routine r\n",
@@ -611,6 +795,126 @@ fn parts_ask_before_they_act(rt: HostRuntime) {
         Part::Routine(RoutineId(1)),
         SERVES_ASKED,
     );
+}
+
+// What is said between operations, which makes no calls.
+const MARKED: &str = "memory text
+group g
+# what the callbacks need
+work save serve group g
+routine serve
+  use text
+  disassociate
+
+  drop text
+  try let more work serve
+  quiet more
+done
+client
+  times 2 try submit save
+  wait save cancel
+  free text
+  quiet g
+  close-group g
+done
+";
+
+const SERVES_MARKED: &str = "w1 disassociate -> ok
+w1 create work r1 x0 p0 normal short g0 q0 -> made 2";
+
+const FREES: &str = "c2 submit 1 -> queued 1 1
+c2 submit 1 -> refused released
+c2 wait work 1 cancel -> begun 1 0
+c2 end -> ended
+c2 close-group 1 -> ok";
+
+#[test]
+fn marks_make_no_calls(rt: HostRuntime) {
+    let script = expect_ok(&rt, parse_script(rt.alloc(), MARKED.as_bytes()));
+    expect_part(&rt, rt.alloc(), &script, Part::Client(2), FREES);
+    expect_part(
+        &rt,
+        rt.alloc(),
+        &script,
+        Part::Routine(RoutineId(1)),
+        SERVES_MARKED,
+    );
+}
+
+#[test]
+fn what_a_script_says_besides_its_calls(rt: HostRuntime) {
+    let alloc = rt.alloc();
+    let script = expect_ok(&rt, parse_script(alloc, MARKED.as_bytes()));
+    let routine = Part::Routine(RoutineId(1));
+    let client = Part::Client(2);
+    expect_marks(
+        &rt,
+        alloc,
+        &script,
+        routine,
+        "0: 6 use 1, 1: 9 drop 1, 2: 11 quiet local 1, ",
+    );
+    expect_marks(
+        &rt,
+        alloc,
+        &script,
+        client,
+        "2: 16 free 1, 2: 17 quiet group 1, ",
+    );
+    expect_eq(&rt, script.part_marks(routine).len(), 3);
+    expect_eq(&rt, script.part_marks(client).len(), 2);
+    expect_eq(&rt, script.part_marks(Part::Client(1)).len(), 0);
+    expect_eq(&rt, script.may_refuse(routine, 0), false);
+    expect_eq(&rt, script.may_refuse(routine, 1), true);
+    expect_eq(&rt, script.may_refuse(client, 0), true);
+    expect_eq(&rt, script.line(routine, 1), Some(10));
+    expect_eq(&rt, script.line(client, 2), Some(18));
+    expect_eq(&rt, script.line(Part::Client(3), 0), None);
+    expect_eq(&rt, script.memories(), 1);
+    expect_eq(&rt, script.memory_line(1), Some(1));
+    expect_eq(&rt, script.group_line(1), Some(2));
+    expect_eq(&rt, script.object_line(1), Some(4));
+    expect_eq(&rt, script.object_line(2), None);
+}
+
+const NAMES: [(u32, &str); 5] = [(1, "text"), (4, "save"), (10, "more"), (12, ""), (20, "")];
+
+#[test]
+fn the_names_of_lines(rt: HostRuntime) {
+    for (line, name) in NAMES {
+        expect_eq(&rt, name_on(MARKED.as_bytes(), line), name.as_bytes());
+    }
+}
+
+// The marks behind each of the first three numbers of operations.
+fn expect_marks(rt: &impl Abort, alloc: Global, script: &Script, part: Part, wanted: &str) {
+    let told = expect_ok(rt, marks_told(alloc, script, part));
+    expect_eq(rt, told.as_str(), wanted);
+}
+
+fn marks_told(alloc: Global, script: &Script, part: Part) -> Result<String, AllocError> {
+    let mut told = String::new(alloc);
+    for made in 0..3 {
+        for mark in script.marks(part, made) {
+            let act = act_told(alloc, mark.act)?;
+            let mark_told = format!(in alloc; "{made}: {} {act}, ", mark.line)?;
+            told.push_str(mark_told.as_str())?;
+        }
+    }
+    Ok(told)
+}
+
+fn act_told(alloc: Global, act: Act) -> Result<String, AllocError> {
+    match act {
+        Act::Use(memory) => format!(in alloc; "use {memory}"),
+        Act::Drop(memory) => format!(in alloc; "drop {memory}"),
+        Act::Free(memory) => format!(in alloc; "free {memory}"),
+        Act::QuietObject(object) if object.local => {
+            format!(in alloc; "quiet local {}", object.number)
+        }
+        Act::QuietObject(object) => format!(in alloc; "quiet {}", object.number),
+        Act::QuietGroup(group) => format!(in alloc; "quiet group {group}"),
+    }
 }
 
 // Behind the answers of these entries the part makes their calls, and no further one.
