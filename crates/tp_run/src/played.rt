@@ -45,11 +45,11 @@ pub fn play_script<Rt: Threads + Wait + Sync, B: Recorded + Send, G: Gate + Sync
     json: bool,
     gate: &G,
 ) -> Result<Output, AllocError>
-    requires clients { HasFewClients script.now }
-    requires calm { NeverWaitsAtFirst script.now }
+    requires clients { HasFewClients script.now.lines }
+    requires calm { NeverWaitsAtFirst script.now.lines }
     requires threads { 1 ≤ threads }
     requires size { IsMachineSize machine }
-    ensures { IfOk result (λ output. IsPlayed script.now threads None (limits_for script.now machine) machine.events (record { history = true; json = json }) output.text.items output.ending) }
+    ensures { IfOk result (λ output. IsPlayed script.now.lines threads None (limits_for script.now.lines machine) machine.events (record { history = true; json = json }) output.text.items output.ending) }
 {
     let limits = program_limits(script.clients(), machine.workers);
     let played = play_routines::<Rt, Written<Counted<B>>, Script, G>(
@@ -72,10 +72,10 @@ pub fn play_script_alone<B: Recorded, G: Gate>(
     json: bool,
     gate: &G,
 ) -> Result<Output, AllocError>
-    requires clients { HasFewClients script.now }
-    requires calm { NeverWaitsAtFirst script.now }
+    requires clients { HasFewClients script.now.lines }
+    requires calm { NeverWaitsAtFirst script.now.lines }
     requires size { IsMachineSize machine }
-    ensures { IfOk result (λ output. IsPlayed script.now 1 None (limits_for script.now machine) machine.events (record { history = true; json = json }) output.text.items output.ending) }
+    ensures { IfOk result (λ output. IsPlayed script.now.lines 1 None (limits_for script.now.lines machine) machine.events (record { history = true; json = json }) output.text.items output.ending) }
 {
     let limits = program_limits(script.clients(), machine.workers);
     let played = play_routines_alone::<Written<Counted<B>>, Script, G>(
@@ -97,10 +97,10 @@ pub fn play_script_drawn<B: Recorded, G: Gate>(
     json: bool,
     gate: &G,
 ) -> Result<Output, AllocError>
-    requires clients { HasFewClients script.now }
-    requires calm { NeverWaitsAtFirst script.now }
+    requires clients { HasFewClients script.now.lines }
+    requires calm { NeverWaitsAtFirst script.now.lines }
     requires size { IsMachineSize machine }
-    ensures { IfOk result (λ output. IsPlayed script.now 1 (Some seed) (limits_for script.now machine) machine.events (record { history = true; json = json }) output.text.items output.ending) }
+    ensures { IfOk result (λ output. IsPlayed script.now.lines 1 (Some seed) (limits_for script.now.lines machine) machine.events (record { history = true; json = json }) output.text.items output.ending) }
 {
     let limits = program_limits(script.clients(), machine.workers);
     let played = play_routines_drawn::<Written<Counted<B>>, Script, G>(
@@ -122,10 +122,10 @@ pub fn play_unwritten<B: Recorded, G: Gate>(
     json: bool,
     gate: &G,
 ) -> Result<Output, AllocError>
-    requires clients { HasFewClients script.now }
-    requires calm { NeverWaitsAtFirst script.now }
+    requires clients { HasFewClients script.now.lines }
+    requires calm { NeverWaitsAtFirst script.now.lines }
     requires size { IsMachineSize machine }
-    ensures { IfOk result (λ output. IsPlayed script.now 1 None (limits_for script.now machine) machine.events (record { history = false; json = json }) output.text.items output.ending) }
+    ensures { IfOk result (λ output. IsPlayed script.now.lines 1 None (limits_for script.now.lines machine) machine.events (record { history = false; json = json }) output.text.items output.ending) }
 {
     let limits = program_limits(script.clients(), machine.workers);
     let played = play_routines_alone::<Counted<B>, Script, G>(

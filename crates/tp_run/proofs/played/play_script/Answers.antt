@@ -6,11 +6,11 @@ use Rattle.tp_run.proofs.played.play_script.Goals as goal
 use Rattle.worker_gate.specs.Alone.{IsAlone}
 
 pub play_routines-requires-clause-calm : goal.play_routines-requires-clause-calm
-play_routines-requires-clause-calm g c = λ lifetimes live. never_waits c.args.script.now c.requires.calm
+play_routines-requires-clause-calm g c = λ lifetimes live. never_waits c.args.script.now.lines c.requires.calm
 
 pub returns : goal.returns
 returns g c =
-    let script = c.args.script.now in
+    let script = c.args.script.now.lines in
     let run = c.in_ok-played.played in
     let told = c.in_ok-played.ensures in
     let made = c.whole_output.ensures in
