@@ -1,21 +1,23 @@
 -- Small orders and their faults, by computation alone.
-use Rattle.std.proofs.Common.{◌≡◌, ℕ, ◌+◌, true, false, ◌&&◌, ◌==◌, List, [], ◌∷◌, Option, None, Some, refl, if◌then◌else◌}
+use Rattle.std.proofs.Common.{◌≡◌, ℕ, ◌+◌, arith, true, false, ◌&&◌, ◌==◌, List, [], ◌∷◌, Option, None, Some, refl, if◌then◌else◌}
 use Rattle.tp_base.specs.declared.answers.Answer.{Answer}
 use Rattle.tp_base.specs.declared.answers.Answer.TheVariants as answer
 use Rattle.tp_base.specs.declared.answers.Entry.{Entry}
 use Rattle.tp_base.specs.declared.answers.Refusal.TheVariants.{NoSuch}
 use Rattle.tp_base.specs.declared.answers.TakeResult.TheVariants.{Plain}
 use Rattle.tp_base.specs.declared.calls.Call.{Call}
-use Rattle.tp_base.specs.declared.calls.Call.TheVariants.{Attach, Create, Finish, SubmitWork, Take}
+use Rattle.tp_base.specs.declared.calls.Call.TheVariants.{Attach, Create, Finish, StartIo, SubmitWork, Take}
 use Rattle.tp_base.specs.declared.calls.Environ.{Environ}
-use Rattle.tp_base.specs.declared.calls.Kind.TheVariants.{Work}
+use Rattle.tp_base.specs.declared.calls.Kind.TheVariants.{Io, Work}
 use Rattle.tp_base.specs.declared.calls.Priority.TheVariants.{Normal}
 use Rattle.tp_base.specs.declared.ids.Who.{Who}
 use Rattle.tp_base.specs.declared.ids.Who.TheVariants.{Client, Worker}
 use Rattle.tp_base.specs.declared.limits.Limits.{Limits}
 use Rattle.tp_base.specs.declared.rows.WaitTarget.TheVariants.{Object}
 use Rattle.tp_model.specs.Calls.Clients.{finish_plan}
+use Rattle.tp_model.specs.Calls.Io.{start_io_plan}
 use Rattle.tp_model.specs.Calls.Objects.{create_plan}
+use Rattle.tp_model.specs.declared.Left.TheVariants as left
 use Rattle.tp_model.specs.Calls.Work.{submit_work_plan}
 use Rattle.tp_model.specs.Calls.Workers.{attach_plan, take_plan}
 use Rattle.tp_script.specs.declared.routines.Part.{Part}
@@ -23,8 +25,9 @@ use Rattle.tp_script.specs.declared.routines.Part.TheVariants as part
 use Rattle.tp_script.specs.declared.routines.Progress.{Progress}
 use Rattle.tp_explore.specs.declared.fault.Fault.{Fault}
 use Rattle.tp_explore.specs.declared.fault.FaultKind.{FaultKind}
-use Rattle.tp_explore.specs.declared.fault.FaultKind.TheVariants.{FreedInUse, NotQuiet, Refused, UseAfterFree}
+use Rattle.tp_explore.specs.declared.fault.FaultKind.TheVariants.{FreedInUse, Left, NotQuiet, Refused, UseAfterFree}
 use Rattle.tp_explore.specs.Faults.{faults_of}
+use Rattle.tp_explore.specs.Scenes.{IsOrder}
 use Rattle.tp_explore.specs.Watched.{Drop, Free, Marked, Quiet, Use, Watched}
 
 limits : Limits
@@ -60,6 +63,13 @@ refused = entry (Client 1) Finish answer.Done ∷ entry (Client 2) submit (answe
 refusal_told : faults_of silent limits refused ≡ fault (Refused NoSuch) 3 ∷ []
 unfolding limits entry fault submit next silent refused finish_plan
 refusal_told = refl
+
+refusal_is_order : IsOrder silent.given limits refused
+unfolding limits entry submit next silent refused finish_plan submit_work_plan
+refusal_is_order = (
+  record { actor = (omega arith, omega arith); turn = refl; due = (0, omega arith, refl); answers = refl },
+  (record { actor = (omega arith, omega arith); turn = refl; due = (0, omega arith, refl); answers = refl }, tt),
+)
 
 refusal_allowed : faults_of (record silent { may_refuse = λ part op. true }) limits refused ≡ []
 unfolding limits entry submit next silent refused finish_plan
@@ -123,3 +133,17 @@ hush = record { mark = Quiet (Object (record { 0 = 1 })); line = 21 } ∷ []
 not_quiet : faults_of (record silent { marks = routine_marks [] hush }) limits saved ≡ fault NotQuiet 21 ∷ []
 unfolding limits entry fault submit silent routine_marks hush environ saved create_plan finish_plan submit_work_plan attach_plan take_plan
 not_quiet = refl
+
+-- an operation is announced and never issued, and all finish
+announced : List Entry
+announced =
+    entry (Client 1) (Create Io (record { 0 = 1 }) 0 environ) (answer.Made 1)
+    ∷ entry (Client 1) Finish answer.Done
+    ∷ entry (Client 2) (StartIo (record { 0 = 1 })) (answer.Started 1)
+    ∷ entry (Client 2) Finish answer.Done
+    ∷ entry (Client 3) Finish answer.Done
+    ∷ []
+
+left_expected : faults_of silent limits announced ≡ fault (Left left.Expected) 3 ∷ []
+unfolding limits entry fault silent environ announced create_plan finish_plan start_io_plan
+left_expected = refl

@@ -1,4 +1,14 @@
 //! Every order in which the actors of a script can make their calls, and what may go wrong in one.
+//!
+//! An order is a history in which each entry is a turn of its actor, and room is never short. A script says besides its
+//! calls what may be refused, and where memories are used and freed and callbacks are to be quiet. A `Fault` is what an
+//! entry does against that; it names the line of the script at which it is told. README.md says the words.
+//! `forgetting_loses_nothing` and `orders_are_legal` do nothing: who calls them knows what their contracts say.
+//!
+//! ```text
+//! Fault { kind: FaultKind::UseAfterFree, line: 10 }    // a use in line 10 begins behind a free
+//! orders_are_legal();                                 // from here on each order is known to be a legal history
+//! ```
 
 #![tactic(auto)]
 
