@@ -1,6 +1,6 @@
 //! The order that moves make, on a machine that writes it down.
 
-ghost use Rattle.std.specs.Prelude.{◌≡◌, ℕ, true, List, [], ◌∷◌, ◌++◌, IfOk, OnOk};
+ghost use Rattle.std.specs.Prelude.{◌≡◌, ℕ, true, List, [], ◌∷◌, ◌++◌, IfErr, IfOk, OnOk};
 ghost use Rattle.tp_base.specs.declared.answers.Entry.{Entry};
 ghost use Rattle.tp_base.specs.Ranges.{AreLimitsInRange};
 ghost use Rattle.tp_model.specs.History.{IsLegal};
@@ -35,6 +35,7 @@ pub fn replay<B: Recorded, R: Routines>(
 ) -> Result<bool, AllocError>
     requires { (B.recording book.old).history ≡ [] }
     ensures machine { IsSameMachine (B.recording book.old) (B.recording book.new) }
+    ensures unplayed { IfErr result (λ error. B.recording book.new ≡ B.recording book.old) }
     ensures order { IfOk result (λ whole. whole ≡ true → IsReplayed (given R.next_of R.after_of routines.now) moves.now (B.recording book.new)) }
     ensures whole { (order : List Entry) → IsOrder (given R.next_of R.after_of routines.now) (B.recording book.old).limits order → IsMadeBy (given R.next_of R.after_of routines.now) (B.recording book.old).limits moves.now order → IsRoomy (B.recording book.old).limits (B.recording book.old).capacity order → IsLegal (B.recording book.old).limits (B.recording book.old).capacity order → IfOk result (λ whole. (whole ≡ true) × ((B.recording book.new).history ≡ order)) }
 {
