@@ -288,3 +288,32 @@ module _ (g : Given) (old : Recording) (moves : List ℕ) where
         nothing_left : (rest : List Entry) → IsMadeFrom g r.limits (scene_behind g r.limits r.history) [] rest → rest ≡ []
         nothing_left [] made_of = refl
         nothing_left (e ∷ rest) made_of = absurd made_of
+
+-- ---- moves make one order alone
+
+one_entry : (g : Given) (limits : Limits) (s : Scene) (by : ℕ) (d e : Entry) → IsTurn g limits s d → IsMove g limits s by d → IsTurn g limits s e → IsMove g limits s by e → d ≡ e
+one_entry g limits s by d e first first_move second second_move =
+    let calls : Some d.call ≡ Some e.call = sym first_move.made ∙ second_move.made in
+    let call_is : d.call ≡ e.call = cc in
+    let who_is : d.who ≡ e.who = first_move.actor ∙ sym second_move.actor in
+    let answers : Done d.answer ≡ Done e.answer = sym first.answers ∙ ap₂ (λ who made. freely s.world who made) who_is call_is ∙ second.answers in
+    let answer_is : d.answer ≡ e.answer = cc in
+    ap₂ (λ who made. record { who = who; call = made; answer = d.answer }) who_is call_is ∙ ap (λ told. record { who = e.who; call = e.call; answer = told }) answer_is
+
+pub one_order : (g : Given) (limits : Limits) (s : Scene) (moves : List ℕ) (a b : List Entry) → IsOrderFrom g limits s a → IsMadeFrom g limits s moves a → IsOrderFrom g limits s b → IsMadeFrom g limits s moves b → a ≡ b
+one_order g limits s [] [] [] order made other other_made = refl
+one_order g limits s [] [] (e ∷ b) order made other other_made = absurd other_made
+one_order g limits s [] (d ∷ a) b order made other other_made = absurd made
+one_order g limits s (by ∷ moves) [] b order made other other_made = absurd made
+one_order g limits s (by ∷ moves) (d ∷ a) [] order made other other_made = absurd other_made
+one_order g limits s (by ∷ moves) (d ∷ a) (e ∷ b) order made other other_made =
+    let same : d ≡ e = one_entry g limits s by d e order.0 made.0 other.0 other_made.0 in
+    let rest : a ≡ b
+    = one_order g limits (scene_after g s d) moves a b order.1 made.1 (subst (λ x. IsOrderFrom g limits (scene_after g s x) b) (sym same) other.1) (subst (λ x. IsMadeFrom g limits (scene_after g s x) moves b) (sym same) other_made.1) in
+    ap₂ (λ x xs. x ∷ xs) same rest
+
+-- so what was played of them is that order
+pub is_only : (g : Given) (old new : Recording) (moves : List ℕ) (order : List Entry) → IsSameMachine old new → IsReplayed g moves new → IsOrder g old.limits order → IsMadeBy g old.limits moves order → new.history ≡ order
+is_only g old new moves order machine replayed is made =
+    one_order g old.limits (first_scene old.limits) moves new.history order
+    (subst (λ l. IsOrder g l new.history) machine.limits replayed.order) (subst (λ l. IsMadeBy g l moves new.history) machine.limits replayed.made) is made

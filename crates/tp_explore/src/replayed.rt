@@ -22,7 +22,7 @@ use tp_script::Routines;
 const AMPLE: u64 = 4;
 
 /// Plays moves, as a search of boards tells them, on a machine that has made no step, and answers whether all of
-/// them were played: the history is then the order that they make.
+/// them were played: the history is then the order that they make, of which there is but one.
 ///
 /// It stops at a move that is no turn there, or for which there isn't room enough. So where they make an order,
 /// and the history has room for it with 4 entries to spare before each, all are played. An `AllocError` comes where
@@ -37,6 +37,7 @@ pub fn replay<B: Recorded, R: Routines>(
     ensures machine { IsSameMachine (B.recording book.old) (B.recording book.new) }
     ensures unplayed { IfErr result (λ error. B.recording book.new ≡ B.recording book.old) }
     ensures order { IfOk result (λ whole. whole ≡ true → IsReplayed (given R.next_of R.after_of routines.now) moves.now (B.recording book.new)) }
+    ensures only { (order : List Entry) → IsOrder (given R.next_of R.after_of routines.now) (B.recording book.old).limits order → IsMadeBy (given R.next_of R.after_of routines.now) (B.recording book.old).limits moves.now order → IfOk result (λ whole. whole ≡ true → (B.recording book.new).history ≡ order) }
     ensures whole { (order : List Entry) → IsOrder (given R.next_of R.after_of routines.now) (B.recording book.old).limits order → IsMadeBy (given R.next_of R.after_of routines.now) (B.recording book.old).limits moves.now order → IsRoomy (B.recording book.old).limits (B.recording book.old).capacity order → IsLegal (B.recording book.old).limits (B.recording book.old).capacity order → IfOk result (λ whole. (whole ≡ true) × ((B.recording book.new).history ≡ order)) }
 {
     let limits = book.limits();

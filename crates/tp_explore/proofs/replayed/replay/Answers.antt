@@ -2,7 +2,7 @@ use Rattle.std.proofs.Common.{◌≡◌, ◌++◌, arith, drop, length, sym, ◌
 use Rattle.std.proofs.lemmas.List.{take-append-le}
 use Rattle.part_places.specs.declared.place.Place.{Place}
 use Rattle.std.specs.Prelude.{List, ℕ}
-use Rattle.tp_explore.proofs.Replaying.{begins, steps, stops, IsAlong}
+use Rattle.tp_explore.proofs.Replaying.{begins, ends, is_only, steps, stops, IsAlong}
 use Rattle.tp_explore.proofs.replayed.replay.Goals as goal
 
 pub loop-by-init : goal.loop-by-init
@@ -14,6 +14,9 @@ returns-then-not-play-clause-whole g c = λ order is made roomy legal.
     let yes = (c.play.ensures.whole ms more rest playing on).0 in
     let wrong : false ≡ true = sym c.if-not-play.true ∙ yes in
     absurd cc) order is made roomy legal)
+
+pub returns-clause-only : goal.returns-clause-only
+returns-clause-only g c = λ order is made yes. is_only _ _ _ _ order c.loop-by.invariant.machine (ends _ _ _ _ _ _ _ c.loop-by.invariant c.loop-by-test.false) is made
 
 -- a slice of the whole vector is written back
 written : (n : ℕ) (new old : List Place) → n ≡ length new → take n (new ++ drop (length new) old) ≡ new
