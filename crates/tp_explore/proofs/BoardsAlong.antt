@@ -16,7 +16,7 @@ use Rattle.tp_explore.specs.Faults.{faults_from, faults_of}
 use Rattle.tp_explore.specs.Noted.{nothing_noted, Noted}
 use Rattle.tp_explore.specs.Scenes.{first_scene, scene_after, IsOrderFrom, Scene}
 use Rattle.tp_explore.specs.Watched.{Watched}
-use Rattle.tp_explore.proofs.BoardsRow.{first_length, first_plays, first_row}
+use Rattle.tp_explore.proofs.BoardsRow.{first_in_row}
 use Rattle.tp_explore.proofs.BoardsShown.{faults_by, noted_by, Comes, Shows}
 use Rattle.tp_explore.proofs.BoardsTurns.{turn_moves, turning, Moves, Turn, Turned}
 
@@ -98,10 +98,7 @@ module _ (k : Watched) (limits : Limits) (key : Board → List ℕ) where
     world = refl;
     made = refl;
     whole = opening_sound limits;
-    row = first_length limits;
-    places = first_row limits;
-    first = first_plays limits;
-    calm = λ none. refl;
+    row = first_in_row limits;
     noted_is = refl;
   }
 

@@ -1,24 +1,29 @@
--- The actors of a machine in a row, and the moves of each.
-use Rattle.std.proofs.Common.{◌≡◌, ℕ, zero, suc, ◌+◌, ◌-◌, ◌*◌, ◌/◌, ◌%◌, ◌<◌, ◌≤◌, Bool, true, false, cond, nat_le, List, [], ◌∷◌, length, map, slice_get, slice_set, get_or, Contains, Option, Some, refl, sym, ap, ◌∙◌, ap₂, eq-eqb, eqb-true, arith, length-append}
+-- The actors of a machine in a row, with their places, and the moves of each.
+use Rattle.std.proofs.Common.{◌≡◌, ℕ, zero, suc, ◌+◌, ◌-◌, ◌*◌, ◌/◌, ◌%◌, ◌<◌, ◌≤◌, Bool, true, false, cond, nat_le, ◌||◌, List, [], ◌∷◌, ◌++◌, append_assoc, length, map, slice_get, slice_set, get_or, Contains, Option, Some, None, refl, sym, ap, ◌∙◌, ap₂, subst, length-set, eq-eqb, eqb-true, arith, length-append}
 use Rattle.std.specs.List.{range_with_len}
 use Rattle.std.specs.Option.{unwrap_or}
-use Rattle.std.proofs.lemmas.List.{get_or-map, get_or-append_right, get_or-set_same, get_or-set_other, get_or_append_left, length-map}
-use Rattle.std.proofs.lemmas.List.FromFn.{get_or-map-range_with_len, length-range_with_len}
-use Rattle.std.proofs.lemmas.Option.{slice_get_read, unwrap_or-slice_get}
+use Rattle.std.proofs.lemmas.List.{get_or-map, get_or-append_right, get_or-set_same, get_or-set_other, get_or_append_left, length-map, map-append}
+use Rattle.std.proofs.lemmas.List.FromFn.{get_or-map-range_with_len, length-range_with_len, map-range_with_len_more}
+use Rattle.std.proofs.lemmas.Option.{get_or_from_slice_get, slice_get_read, slice_get_within, unwrap_or-slice_get}
 use Rattle.tp_base.specs.Actors.{is_same_actor}
+use Rattle.tp_base.specs.declared.answers.Answer.{Answer}
+use Rattle.tp_base.specs.declared.answers.Entry.{Entry}
+use Rattle.tp_base.specs.declared.answers.Outcome.TheVariants.{Done}
 use Rattle.tp_base.specs.declared.calls.Call.{Call}
 use Rattle.tp_base.specs.declared.ids.Who.{Who}
 use Rattle.tp_base.specs.declared.ids.Who.TheVariants.{Client, Worker}
 use Rattle.tp_base.specs.declared.limits.Limits.{Limits}
 use Rattle.tp_base.specs.declared.plans.Stage.{Stage}
 use Rattle.tp_base.specs.declared.plans.Stage.TheVariants.{Away, Busy, Idle, Over, Playing}
+use Rattle.tp_model.specs.World.{World}
 use Rattle.tp_model.specs.Stages.{first_stage, is_over_stage, IsActor}
 use Rattle.part_places.specs.declared.place.Place.{Place}
-use Rattle.part_places.specs.Places.{opening}
-use Rattle.tp_explore.specs.Boards.{actor_of, actors, mover, place_at, place_in_row, width_of}
-use Rattle.tp_explore.specs.Scenes.{turns_in, with_place}
+use Rattle.part_places.specs.Places.{opening, place_after, Given}
+use Rattle.tp_explore.specs.Boards.{actor_of, actors, call_by, mover, place_at, place_in_row, turn_in, width_of}
+use Rattle.tp_explore.specs.Rows.{AreInRow}
+use Rattle.tp_explore.specs.Scenes.{first_scene, freely, has_turn, scene_after, turns_at, turns_in, with_place, IsTurn, Scene}
 
-pub same_actor : (a b : Who) → is_same_actor a b ≡ true → a ≡ b
+same_actor : (a b : Who) → is_same_actor a b ≡ true → a ≡ b
 same_actor (Client a) (Client b) is = ap (λ n. Client n) (eqb-true a b is)
 same_actor (Worker a) (Worker b) is = ap (λ n. Worker n) (eqb-true a b is)
 same_actor (Client a) (Worker b) is = absurd cc
@@ -64,13 +69,13 @@ module _ (limits : Limits) where
           ∙ get_or-set_other places (place_in_row limits who) (place_in_row limits other) p (opening other) (λ e. let wrong : true ≡ false = sym (row_same who other actor of e) ∙ is in absurd cc)
           ∙ sym (unwrap_or-slice_get places (place_in_row limits other) (opening other))
 
-  pub first_length : length (map opening (actors limits)) ≡ limits.clients + limits.workers
+  first_length : length (map opening (actors limits)) ≡ limits.clients + limits.workers
   first_length =
       length-map (actors limits) opening
       ∙ length-append (map Client (range_with_len 1 limits.clients)) (map Worker (range_with_len 1 limits.workers))
       ∙ ap₂ (λ m n. m + n) (length-map (range_with_len 1 limits.clients) Client ∙ length-range_with_len 1 limits.clients) (length-map (range_with_len 1 limits.workers) Worker ∙ length-range_with_len 1 limits.workers)
 
-  pub first_row : (who : Who) → IsActor limits who → place_at limits (map opening (actors limits)) who ≡ opening who
+  first_row : (who : Who) → IsActor limits who → place_at limits (map opening (actors limits)) who ≡ opening who
   first_row who actor =
       unwrap_or-slice_get (map opening (actors limits)) (place_in_row limits who) (opening who)
       ∙ get_or-map opening (actors limits) (place_in_row limits who) who (opening who) (omega (arith, within_row who actor, sym (length-map (actors limits) opening), first_length))
@@ -85,9 +90,6 @@ module _ (limits : Limits) where
           let count : length (map Client (range_with_len 1 limits.clients)) ≡ limits.clients = length-map (range_with_len 1 limits.clients) Client ∙ length-range_with_len 1 limits.clients in
           get_or-append_right (map Client (range_with_len 1 limits.clients)) (map Worker (range_with_len 1 limits.workers)) limits.clients (limits.clients + (n - 1)) (Worker n) count (omega arith)
           ∙ get_or-map-range_with_len Worker 1 limits.workers (limits.clients + (n - 1) - limits.clients) n (Worker n) (omega arith) (omega arith)
-
-  pub first_plays : is_over_stage ((place_at limits (map opening (actors limits)) (Client 1)).stage) ≡ false
-  first_plays = none_over (actors limits) (place_in_row limits (Client 1)) (Client 1)
 
   -- ---- moves
 
@@ -135,3 +137,80 @@ few_turns Over next = omega arith
 
 pub contained : {X : Type 0} (xs : List X) (x : X) (has : Contains xs x) → slice_get xs has.0 ≡ Some x
 contained xs x has = slice_get_read xs (length xs) has.0 x refl has.1 (sym has.2)
+
+-- ---- a row of places and a scene
+
+pub clients_more : (n : ℕ) → map opening (map Client (range_with_len 1 (n + 1))) ≡ map opening (map Client (range_with_len 1 n)) ++ opening (Client (n + 1)) ∷ []
+clients_more n = ap (map opening) (map-range_with_len_more Client 1 n (n + 1) (omega arith)) ∙ map-append opening (map Client (range_with_len 1 n)) (Client (n + 1) ∷ [])
+
+pub workers_more : (clients : List Who) (n : ℕ) → map opening (clients ++ map Worker (range_with_len 1 (n + 1))) ≡ map opening (clients ++ map Worker (range_with_len 1 n)) ++ opening (Worker (n + 1)) ∷ []
+workers_more clients n =
+    ap (λ workers. map opening (clients ++ workers)) (map-range_with_len_more Worker 1 n (n + 1) (omega arith))
+    ∙ ap (map opening) (sym (append_assoc clients (map Worker (range_with_len 1 n)) (Worker (n + 1) ∷ [])))
+    ∙ map-append opening (clients ++ map Worker (range_with_len 1 n)) (Worker (n + 1) ∷ [])
+
+pub first_in_row : (limits : Limits) → AreInRow limits (first_scene limits) (map opening (actors limits))
+first_in_row limits = record { count = first_length limits; at = first_row limits; first = none_over (actors limits) (place_in_row limits (Client 1)) (Client 1); calm = λ none. refl }
+
+module _ (g : Given) (limits : Limits) (s : Scene) (places : List Place) (stand : AreInRow limits s places) where
+  -- the turns are those of the scene, whatever the world is
+  pub turns_same : (w : World) (who : Who) (number : ℕ) → IsActor limits who → turn_in g (record { world = w; places = place_at limits places }) who number ≡ turn_in g s who number
+  turns_same w who number actor = ap₂ (λ t p. cond t (slice_get (turns_at g who p) number) None) (ap (λ t. is_same_actor who (Client 1) || t) stand.first) (stand.at who actor)
+
+  module _ (e : Entry) (actor : IsActor limits e.who) (turn : has_turn s e.who ≡ true) where
+    -- where there is no client, there is no turn
+    has_client : 1 ≤ limits.clients
+    has_client = first (is_same_actor e.who (Client 1)) refl
+      where
+        count : (n : ℕ) → limits.clients ≡ n → is_over_stage ((s.places (Client 1)).stage) ≡ true → 1 ≤ limits.clients
+        count zero none over = let wrong : true ≡ false = sym over ∙ stand.calm none in absurd cc
+        count (suc n) some over = omega (arith, some)
+
+        first : (t : Bool) → is_same_actor e.who (Client 1) ≡ t → 1 ≤ limits.clients
+        first true same = let one : IsActor limits (Client 1) = subst (IsActor limits) (same_actor e.who (Client 1) same) actor in one.1
+        first false other = count limits.clients refl (sym (ap (λ t. t || is_over_stage ((s.places (Client 1)).stage)) other) ∙ turn)
+
+    -- and behind a turn
+    abbrev pub row_behind : List Place
+    row_behind = slice_set places (place_in_row limits e.who) (place_after g e.who (place_at limits places e.who) e.call e.answer)
+
+    pub at_behind : (who : Who) → IsActor limits who → place_at limits row_behind who ≡ (scene_after g s e).places who
+    at_behind who of =
+        row_after limits places e.who who (place_after g e.who (place_at limits places e.who) e.call e.answer) stand.count actor of
+        ∙ ap₂ (λ p q. cond (is_same_actor e.who who) p q) (ap (λ p. place_after g e.who p e.call e.answer) (stand.at e.who actor)) (stand.at who of)
+
+    pub in_row_behind : AreInRow limits (scene_after g s e) row_behind
+    in_row_behind = record {
+      count = length-set places (place_in_row limits e.who) (place_after g e.who (place_at limits places e.who) e.call e.answer) ∙ stand.count;
+      at = at_behind;
+      first = ap (λ (p : Place). is_over_stage p.stage) (at_behind (Client 1) (omega arith, has_client));
+      calm = λ none. absurd (omega (arith, has_client, none));
+    }
+
+-- ---- turns that are due
+
+-- the entry of a move's call, with the answer that it freely has
+pub turn_told : (g : Given) (limits : Limits) (s : Scene) (by : ℕ) (made : Call) (told : Answer) → by < width_of limits → call_by g limits s by ≡ Some made → freely s.world (mover limits by) made ≡ Done told
+    → IsTurn g limits s (record { who = mover limits by; call = made; answer = told })
+turn_told g limits s by made told within is answers = record { actor = mover_acts limits by within; turn = has.0; due = contains has.1; answers = answers }
+  where
+    due : List Call
+    due = turns_at g (mover limits by) (s.places (mover limits by))
+
+    parts : (t : Bool) → has_turn s (mover limits by) ≡ t → cond t (slice_get due (by % 2)) None ≡ Some made → (has_turn s (mover limits by) ≡ true) × (slice_get due (by % 2) ≡ Some made)
+    parts true same at = (same, at)
+    parts false same at = absurd cc
+
+    has : (has_turn s (mover limits by) ≡ true) × (slice_get due (by % 2) ≡ Some made)
+    has = parts (has_turn s (mover limits by)) refl is
+
+    contains : slice_get due (by % 2) ≡ Some made → Contains due made
+    contains at = (by % 2, slice_get_within due (by % 2) made at, get_or_from_slice_get due (by % 2) made made at)
+
+-- only an actor's move is below the width
+pub mover_within : (limits : Limits) (by : ℕ) → IsActor limits (mover limits by) → by < width_of limits
+mover_within limits by actor = known (nat_le (by / 2 + 1) limits.clients) refl actor
+  where
+    known : (t : Bool) → nat_le (by / 2 + 1) limits.clients ≡ t → IsActor limits (cond t (Client (by / 2 + 1)) (Worker (by / 2 + 1 - limits.clients))) → by < width_of limits
+    known true is acts = omega (arith, acts)
+    known false is acts = omega (arith, acts)

@@ -1,19 +1,16 @@
 -- What a board shows of a scene, and what comes of an entry.
-use Rattle.std.proofs.Common.{◌≡◌, ◌≢◌, ℕ, zero, suc, cond, ◌+◌, ◌≤◌, Bool, true, false, ◌||◌, List, [], ◌∷◌, length, length-set, refl, sym, ap, ap₂, ◌∙◌, subst, arith}
+use Rattle.std.proofs.Common.{◌≡◌, ◌≢◌, ℕ, ◌+◌, true, false, List, [], ◌∷◌, length, sym, ap, ◌∙◌, subst}
 use Rattle.breadth_first.specs.declared.Next.{Next}
 use Rattle.breadth_first.specs.declared.Next.TheVariants.{Nowhere, Bad, To}
-use Rattle.tp_base.specs.Actors.{is_same_actor}
 use Rattle.tp_base.specs.declared.answers.Answer.TheVariants as answer
 use Rattle.tp_base.specs.declared.answers.Entry.{Entry}
 use Rattle.tp_base.specs.declared.answers.Outcome.TheVariants.{Done}
-use Rattle.tp_base.specs.declared.ids.Who.{Who}
-use Rattle.tp_base.specs.declared.ids.Who.TheVariants.{Client}
 use Rattle.tp_base.specs.declared.limits.Limits.{Limits}
 use Rattle.tp_base.specs.declared.plans.Plan.{Plan}
 use Rattle.tp_base.specs.declared.plans.Plan.TheVariants.{Does, Looked, Refused}
 use Rattle.tp_model.specs.Changes.{changed}
 use Rattle.tp_model.specs.History.{is_refusal, led_to}
-use Rattle.tp_model.specs.Stages.{is_over_stage, IsActor}
+use Rattle.tp_model.specs.Stages.{IsActor}
 use Rattle.tp_model.specs.Step.{outcome_of, stepped}
 use Rattle.tp_model.specs.Support.Allowed.{news}
 use Rattle.tp_model.specs.Support.Remembered.{forget}
@@ -25,14 +22,14 @@ use Rattle.tp_model.proofs.Forgetting.{changed_forget}
 use Rattle.tp_model.proofs.Growing.{grows}
 use Rattle.tp_model.proofs.Steps.{plan_allowed}
 use Rattle.part_places.specs.declared.place.Place.{Place}
-use Rattle.part_places.specs.Places.{place_after}
-use Rattle.tp_explore.specs.Boards.{board_behind, moved, place_at, place_in_row, planned, scene_of, to_board, Board}
+use Rattle.tp_explore.specs.Boards.{board_behind, moved, place_at, planned, scene_of, to_board, Board}
 use Rattle.tp_explore.specs.declared.fault.Fault.{Fault}
 use Rattle.tp_explore.specs.Faults.{faults_between, noted_between, shown}
 use Rattle.tp_explore.specs.Noted.{Noted}
+use Rattle.tp_explore.specs.Rows.{AreInRow}
 use Rattle.tp_explore.specs.Scenes.{ample, has_turn, scene_after, Scene}
 use Rattle.tp_explore.specs.Watched.{Watched}
-use Rattle.tp_explore.proofs.BoardsRow.{row_after, same_actor}
+use Rattle.tp_explore.proofs.BoardsRow.{at_behind, in_row_behind}
 use Rattle.tp_explore.proofs.Freely.{freely_entered, led_whole, IsWhole}
 
 module _ (k : Watched) (limits : Limits) where
@@ -41,11 +38,7 @@ module _ (k : Watched) (limits : Limits) where
     pub world : b.world ≡ forget s.world
     pub made : b.made ≡ length s.world.callbacks
     pub whole : IsWhole s.world
-    pub row : length b.places ≡ limits.clients + limits.workers
-    pub places : (who : Who) → IsActor limits who → place_at limits b.places who ≡ s.places who
-    -- whether client 1 has finished; where there is none, nobody has a turn
-    pub first : is_over_stage ((place_at limits b.places (Client 1)).stage) ≡ is_over_stage ((s.places (Client 1)).stage)
-    pub calm : limits.clients ≡ 0 → is_over_stage ((s.places (Client 1)).stage) ≡ false
+    pub row : AreInRow limits s b.places
     pub noted_is : b.noted ≡ noted
 
   -- what is noted behind an entry, and the faults that it brings
@@ -62,18 +55,6 @@ module _ (k : Watched) (limits : Limits) where
   Comes s noted e (To b) = (faults_by s noted e ≡ []) × Shows (scene_after k.given s e) (noted_by s noted e) b
 
   module _ (s : Scene) (noted : Noted) (b : Board) (shows : Shows s noted b) (e : Entry) (actor : IsActor limits e.who) (turn : has_turn s e.who ≡ true) where
-    -- where there is no client, there is no turn
-    has_client : 1 ≤ limits.clients
-    has_client = first (is_same_actor e.who (Client 1)) refl
-      where
-        count : (n : ℕ) → limits.clients ≡ n → is_over_stage ((s.places (Client 1)).stage) ≡ true → 1 ≤ limits.clients
-        count zero none over = let wrong : true ≡ false = sym over ∙ shows.calm none in absurd cc
-        count (suc n) some over = omega (arith, some)
-
-        first : (t : Bool) → is_same_actor e.who (Client 1) ≡ t → 1 ≤ limits.clients
-        first true same = let one : IsActor limits (Client 1) = subst (IsActor limits) (same_actor e.who (Client 1) same) actor in one.1
-        first false other = count limits.clients refl (sym (ap (λ t. t || is_over_stage ((s.places (Client 1)).stage)) other) ∙ turn)
-
     module _ (w : World) (made : ℕ) (is : w ≡ forget (led_to s.world e)) (counts : made ≡ length (led_to s.world e).callbacks) (whole : IsWhole (led_to s.world e)) where
       abbrev next : Board
       next = board_behind k limits b e w made
@@ -81,10 +62,11 @@ module _ (k : Watched) (limits : Limits) where
       abbrev behind : Scene
       behind = scene_after k.given s e
 
-      next_places : (who : Who) → IsActor limits who → place_at limits next.places who ≡ behind.places who
-      next_places who of =
-          row_after limits b.places e.who who (place_after k.given e.who (place_at limits b.places e.who) e.call e.answer) shows.row actor of
-          ∙ ap₂ (λ p q. cond (is_same_actor e.who who) p q) (ap (λ p. place_after k.given e.who p e.call e.answer) (shows.places e.who actor)) (shows.places who of)
+      before : place_at limits b.places e.who ≡ s.places e.who
+      before = shows.row.at e.who actor
+
+      after : place_at limits next.places e.who ≡ behind.places e.who
+      after = at_behind k.given limits s b.places shows.row e actor turn e.who actor
 
       abbrev noted_with : Place → Place → Noted → Noted
       noted_with p q n = noted_between k limits (record { world = w; places = λ who. p }) (record { world = w; places = λ who. q }) n e
@@ -94,15 +76,15 @@ module _ (k : Watched) (limits : Limits) where
 
       noted_same : next.noted ≡ noted_by s noted e
       noted_same =
-          ap (λ p. noted_with p (place_at limits next.places e.who) b.noted) (shows.places e.who actor)
-          ∙ ap (λ q. noted_with (s.places e.who) q b.noted) (next_places e.who actor)
+          ap (λ p. noted_with p (place_at limits next.places e.who) b.noted) before
+          ∙ ap (λ q. noted_with (s.places e.who) q b.noted) after
           ∙ ap (λ n. noted_with (s.places e.who) (behind.places e.who) n) shows.noted_is
 
       faults_same : faults_between k limits (scene_of limits b) (scene_of limits next) b.noted e ≡ faults_by s noted e
       faults_same =
           ap (λ v. faults_with v (place_at limits b.places e.who) (place_at limits next.places e.who) b.noted) is
-          ∙ ap (λ p. faults_with (forget behind.world) p (place_at limits next.places e.who) b.noted) (shows.places e.who actor)
-          ∙ ap (λ q. faults_with (forget behind.world) (s.places e.who) q b.noted) (next_places e.who actor)
+          ∙ ap (λ p. faults_with (forget behind.world) p (place_at limits next.places e.who) b.noted) before
+          ∙ ap (λ q. faults_with (forget behind.world) (s.places e.who) q b.noted) after
           ∙ ap (λ n. faults_with (forget behind.world) (s.places e.who) (behind.places e.who) n) shows.noted_is
 
       shows_next : Shows behind (noted_by s noted e) next
@@ -110,10 +92,7 @@ module _ (k : Watched) (limits : Limits) where
         world = is;
         made = counts;
         whole = whole;
-        row = length-set b.places (place_in_row limits e.who) (place_after k.given e.who (place_at limits b.places e.who) e.call e.answer) ∙ shows.row;
-        places = next_places;
-        first = ap (λ (p : Place). is_over_stage p.stage) (next_places (Client 1) (omega arith, has_client));
-        calm = λ none. absurd (omega (arith, has_client, none));
+        row = in_row_behind k.given limits s b.places shows.row e actor turn;
         noted_is = noted_same;
       }
 

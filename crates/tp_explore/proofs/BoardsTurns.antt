@@ -1,22 +1,18 @@
 -- Each turn of a scene is a move of a board that shows it, and each move is a turn, or leads nowhere.
-use Rattle.std.proofs.Common.{◌≡◌, ℕ, ◌+◌, ◌*◌, ◌%◌, ◌<◌, Bool, true, false, cond, nat_lt, ◌||◌, List, slice_get, Contains, Option, Some, None, refl, sym, ap, ap₂, ◌∙◌, subst, arith}
+use Rattle.std.proofs.Common.{◌≡◌, ℕ, ◌+◌, ◌*◌, ◌%◌, ◌<◌, Bool, true, false, cond, nat_lt, List, slice_get, Option, Some, None, refl, sym, ap, ap₂, ◌∙◌, subst, arith}
 use Rattle.std.proofs.lemmas.Bool.{lt-ltb, ltb-true}
-use Rattle.std.proofs.lemmas.Option.{get_or_from_slice_get, slice_get_within}
 use Rattle.breadth_first.specs.declared.Next.{Next}
 use Rattle.breadth_first.specs.declared.Next.TheVariants.{Nowhere, Bad, To}
 use Rattle.breadth_first.specs.Rules.{move_of}
-use Rattle.tp_base.specs.Actors.{is_same_actor}
 use Rattle.tp_base.specs.declared.answers.Answer.{Answer}
 use Rattle.tp_base.specs.declared.answers.Answer.TheVariants as answer
 use Rattle.tp_base.specs.declared.answers.Entry.{Entry}
 use Rattle.tp_base.specs.declared.answers.Outcome.TheVariants.{Done}
 use Rattle.tp_base.specs.declared.calls.Call.{Call}
 use Rattle.tp_base.specs.declared.ids.Who.{Who}
-use Rattle.tp_base.specs.declared.ids.Who.TheVariants.{Client}
 use Rattle.tp_base.specs.declared.limits.Limits.{Limits}
 use Rattle.tp_base.specs.declared.plans.Plan.{Plan}
 use Rattle.tp_base.specs.declared.plans.Plan.TheVariants.{Does, Looked, Refused}
-use Rattle.tp_model.specs.Stages.{IsActor}
 use Rattle.tp_model.specs.Step.{outcome_of, stepped}
 use Rattle.tp_model.specs.Table.{plan, plan_at}
 use Rattle.tp_model.proofs.Calls.{plan_forget}
@@ -25,20 +21,14 @@ use Rattle.part_places.specs.Places.{next_call}
 use Rattle.tp_explore.specs.Boards.{after_board, call_by, called, mover, place_in_row, planned, rules_of, scene_of, turn_in, width_of, Board}
 use Rattle.tp_explore.specs.Explored.{IsMove}
 use Rattle.tp_explore.specs.Noted.{Noted}
-use Rattle.tp_explore.specs.Scenes.{ample, freely, has_turn, turns_at, IsTurn, Scene}
+use Rattle.tp_explore.specs.Scenes.{ample, turns_at, IsTurn, Scene}
 use Rattle.tp_explore.specs.Watched.{Watched}
-use Rattle.tp_explore.proofs.BoardsRow.{contained, few_turns, mover_acts, mover_at, second_at, within_width}
+use Rattle.tp_explore.proofs.BoardsRow.{contained, few_turns, mover_acts, mover_at, second_at, turn_told, turns_same, within_width}
 use Rattle.tp_explore.proofs.BoardsShown.{planned_comes, Comes, Shows}
 
 module _ (k : Watched) (limits : Limits) (key : Board → List ℕ) where
   module _ (s : Scene) (noted : Noted) (b : Board) (shows : Shows k limits s noted b) where
-    -- the board has the turns of the scene, and the plans of their calls
-    has_same : (who : Who) → has_turn (scene_of limits b) who ≡ has_turn s who
-    has_same who = ap (λ t. is_same_actor who (Client 1) || t) shows.first
-
-    turns_same : (who : Who) (number : ℕ) → IsActor limits who → turn_in k.given (scene_of limits b) who number ≡ turn_in k.given s who number
-    turns_same who number actor = ap₂ (λ t p. cond t (slice_get (turns_at k.given who p) number) None) (has_same who) (shows.places who actor)
-
+    -- the board has the plans of the scene
     plans_same : (who : Who) (made : Call) → plan_at b.world (b.made + 1) ample who made ≡ plan s.world ample who made
     plans_same who made = ap₂ (λ w n. plan_at w (n + 1) ample who made) shows.world shows.made ∙ plan_forget (next_number_in s.world) ample s.world who made shows.whole
 
@@ -65,7 +55,7 @@ module _ (k : Watched) (limits : Limits) (key : Board → List ℕ) where
 
         turn_is : turn_in k.given (scene_of limits b) e.who number ≡ Some e.call
         turn_is =
-            turns_same e.who number turn.actor
+            turns_same k.given limits s b.places shows.row b.world e.who number turn.actor
             ∙ ap (λ t. cond t (slice_get (turns_at k.given e.who (s.places e.who)) number) None) turn.turn
             ∙ contained (turns_at k.given e.who (s.places e.who)) e.call turn.due
 
@@ -94,19 +84,6 @@ module _ (k : Watched) (limits : Limits) (key : Board → List ℕ) where
       abbrev who : Who
       who = mover limits by
 
-      turn_told : (told : Answer) → freely s.world who made ≡ Done told → IsTurn k.given limits s (record { who = who; call = made; answer = told })
-      turn_told told answers = record { actor = mover_acts limits by within; turn = has.0; due = contains has.1; answers = answers }
-        where
-          parts : (t : Bool) → has_turn s who ≡ t → cond t (slice_get (turns_at k.given who (s.places who)) (by % 2)) None ≡ Some made → (has_turn s who ≡ true) × (slice_get (turns_at k.given who (s.places who)) (by % 2) ≡ Some made)
-          parts true same at = (same, at)
-          parts false same at = absurd cc
-
-          has : (has_turn s who ≡ true) × (slice_get (turns_at k.given who (s.places who)) (by % 2) ≡ Some made)
-          has = parts (has_turn s who) refl is
-
-          contains : slice_get (turns_at k.given who (s.places who)) (by % 2) ≡ Some made → Contains (turns_at k.given who (s.places who)) made
-          contains at = (by % 2, slice_get_within (turns_at k.given who (s.places who)) (by % 2) made at, get_or_from_slice_get (turns_at k.given who (s.places who)) (by % 2) made made at)
-
       told_turned : (p : Plan) (told : Answer) → plan s.world ample who made ≡ p → outcome_of (stepped s.world p) ≡ Done told → Turned by (planned k limits b who made p)
       told_turned p told plans says = of_next (planned k limits b who made p) (planned_comes k limits s noted b shows entry turn.actor turn.turn p plans says)
         where
@@ -114,7 +91,7 @@ module _ (k : Watched) (limits : Limits) (key : Board → List ℕ) where
           entry = record { who = who; call = made; answer = told }
 
           turn : IsTurn k.given limits s entry
-          turn = turn_told told (ap (λ x. outcome_of (stepped s.world x)) plans ∙ says)
+          turn = turn_told k.given limits s by made told within is (ap (λ x. outcome_of (stepped s.world x)) plans ∙ says)
 
           of_next : (n : Next Board) → Comes k limits s noted entry n → Turned by n
           of_next Nowhere comes = tt
@@ -138,5 +115,5 @@ module _ (k : Watched) (limits : Limits) (key : Board → List ℕ) where
         of_width false past = tt
         of_width true is =
             let within : by < width_of limits = ltb-true by (width_of limits) is in
-            subst (λ c. Turned by (called k limits b (mover limits by) c)) (sym (turns_same (mover limits by) (by % 2) (mover_acts limits by within)))
+            subst (λ c. Turned by (called k limits b (mover limits by) c)) (sym (turns_same k.given limits s b.places shows.row b.world (mover limits by) (by % 2) (mover_acts limits by within)))
             (call_turned by within (call_by k.given limits s by) refl)

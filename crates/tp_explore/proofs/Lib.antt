@@ -7,3 +7,4 @@ pub mod BoardsTurns
 mod Examples
 pub mod Freely
 pub mod Legal
+pub mod Replaying

@@ -4,5 +4,7 @@ pub mod Explored
 pub mod Faults
 pub mod Legal
 pub mod Noted
+pub mod Replayed
+pub mod Rows
 pub mod Scenes
 pub mod Watched

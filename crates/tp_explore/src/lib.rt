@@ -3,17 +3,21 @@
 //! An order is a history in which each entry is a turn of its actor, and room is never short. A script says besides its
 //! calls what may be refused, and where memories are used and freed and callbacks are to be quiet. A `Fault` is what an
 //! entry does against that; it names the line of the script at which it is told. README.md says the words.
-//! `forgetting_loses_nothing` and `orders_are_legal` do nothing: who calls them knows what their contracts say.
+//! `forgetting_loses_nothing`, `orders_are_legal` and `searches_tell_of_orders` do nothing: who calls them knows what their
+//! contracts say. `replay` plays the moves that a search of boards tells on a machine, which writes down their order.
 //!
 //! ```text
 //! Fault { kind: FaultKind::UseAfterFree, line: 10 }    // a use in line 10 begins behind a free
 //! orders_are_legal();                                 // from here on each order is known to be a legal history
+//! replay(alloc, &mut book, &script, &[0, 0, 2])       // true: client 1 made two calls and client 2 one, as `book` tells
 //! ```
 
 #![tactic(auto)]
 
 mod fault;
 mod noted;
+mod places;
+mod replayed;
 
 ghost use Rattle.std.specs.Prelude.{◌≡◌, ℕ, List, ◌++◌};
 ghost use Rattle.breadth_first.specs.Answers.{Answers};
@@ -32,6 +36,7 @@ ghost use Rattle.tp_explore.specs.Watched.{Watched};
 
 pub use fault::{Fault, FaultKind};
 pub use noted::{Hush, Use};
+pub use replayed::replay;
 
 /// Behind orders whose scenes differ in callbacks that are over alone, the same orders go on, with the same faults
 /// whatever was noted. So a search may forget those callbacks. It does nothing: who calls it knows this.
