@@ -18,6 +18,8 @@ mod legacy;
 #[cfg(test)]
 mod libraries;
 #[cfg(test)]
+mod orders;
+#[cfg(test)]
 mod program;
 #[cfg(test)]
 mod reports;
