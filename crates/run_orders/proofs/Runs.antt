@@ -13,23 +13,16 @@ use Rattle.tp_base.specs.declared.calls.Call.TheVariants.{Attach, Finish, Return
 use Rattle.tp_base.specs.declared.ids.Who.{Who}
 use Rattle.tp_base.specs.declared.ids.Who.TheVariants.{Client, Worker}
 use Rattle.tp_base.specs.declared.limits.Limits.{Limits}
-use Rattle.tp_base.specs.declared.plans.Plan.{Plan}
-use Rattle.tp_base.specs.declared.plans.Plan.TheVariants.{Does, Looked, Refused}
 use Rattle.tp_base.specs.declared.plans.Stage.{Stage}
 use Rattle.tp_base.specs.declared.plans.Stage.TheVariants.{Away, Busy, Idle, Over, Playing}
-use Rattle.tp_model.specs.Changes.{changed}
 use Rattle.tp_model.specs.History.{room, IsLegal, IsLegalFrom}
 use Rattle.tp_model.specs.Stages.{is_in_part, is_over_stage, stage_by, stage_from, stage_step, Finishes, IsActor, StageStep}
-use Rattle.tp_model.specs.Step.{cost, outcome_of, stepped, within}
-use Rattle.tp_model.specs.Step as step
-use Rattle.tp_model.specs.Table as table
-use Rattle.tp_model.specs.Table.{plan}
+use Rattle.tp_model.specs.Step.{outcome_of, stepped}
 use Rattle.tp_model.specs.World.{World, opening as opening_world}
 use Rattle.tp_model.specs.Calls.Workers.{attach_plan, attach_refusals, attach_to, pool_to_join}
 use Rattle.tp_model.specs.Counts.{attached, available, is_below_minimum, maximum}
 use Rattle.tp_model.specs.Laws.Entries.{attached_by}
 use Rattle.tp_model.specs.Refusing.{first_refusal, unless_refused}
-use Rattle.tp_model.proofs.Entries.{next_number_in}
 use Rattle.tp_model.proofs.Refusals.{is_own_actor, same_actor_is}
 use Rattle.turn_lock.specs.Histories.{own}
 use Rattle.part_places.specs.declared.place.Place.{Place}
@@ -39,8 +32,8 @@ use Rattle.worker_gate.specs.Runs.{AreKnown, ComesFirst, IsCutShort, Runs}
 use Rattle.worker_gate.specs.Walks.{Closes, FollowsAt, Leads}
 use Rattle.worker_gate.proofs.Walking.{own_append, stage_is}
 use Rattle.tp_explore.specs.Legal.{IsRoomy, IsRoomyFrom}
-use Rattle.tp_explore.specs.Scenes.{ample, first_scene, freely, has_turn, scene_after, scene_from, turns_at, turns_in, IsOrder, IsOrderFrom, Scene}
-use Rattle.tp_explore.proofs.Ample.{plan_same}
+use Rattle.tp_explore.specs.Scenes.{first_scene, freely, has_turn, scene_after, scene_from, turns_at, turns_in, IsOrder, IsOrderFrom, Scene}
+use Rattle.tp_explore.proofs.Replaying.{freely_told}
 
 true_false : (b : Bool) → b ≡ true → b ≡ false → ⊥
 true_false true is not = let none : ⊥ = cc in none
@@ -53,26 +46,6 @@ or_left true b is = is
 or_right : (a b : Bool) → (a || b) ≡ false → b ≡ false
 or_right false b is = is
 or_right true b is = let none : ⊥ = cc in absurd none
-
--- ---- what an entry of a legal history has for an answer, its call freely has
-
-freely_within : (w : World) (left : ℕ) (p : Plan) (told : Answer) → outcome_of (within w left (stepped w p)) ≡ Done told → outcome_of (stepped w p) ≡ Done told
-freely_within w left (Looked look) told is = is
-freely_within w left (Refused refusal) told is =
-    elim (nat_lt left 1) as (λ b. outcome_of (cond b (step.Full left 1) (step.Refused refusal)) ≡ Done told → Done (answer.Refused refusal) ≡ Done told) [
-      | true ↦ λ e. let none : ⊥ = cc in absurd none
-      | false ↦ λ e. e
-    ] is
-freely_within w left (Does known change) told is =
-    elim (nat_lt left (cost w (changed w change))) as (λ b. outcome_of (cond b (step.Full left (cost w (changed w change))) (step.Accepted known (changed w change))) ≡ Done told → Done known ≡ Done told) [
-      | true ↦ λ e. let none : ⊥ = cc in absurd none
-      | false ↦ λ e. e
-    ] is
-
-freely_told : (w : World) (left : ℕ) (who : Who) (made : Call) (told : Answer) → ample ≤ left → outcome_of (table.step w left who made) ≡ Done told → freely w who made ≡ Done told
-freely_told w left who made told enough is =
-    freely_within w left (plan w ample who made) told
-    (ap (λ p. outcome_of (within w left (stepped w p))) (sym (plan_same w left enough (next_number_in w) who made)) ∙ is)
 
 -- ---- client 1 comes first
 
