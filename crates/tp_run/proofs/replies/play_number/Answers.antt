@@ -1,4 +1,5 @@
 use Rattle.std.proofs.Common.{◌≡◌, Err, sym, subst, ap, ◌∙◌, arith}
+use Rattle.std.proofs.lemmas.Result.{IfOk-weaker}
 use Rattle.tp_run.specs.Played.{long_script}
 use Rattle.tp_script.specs.Answers.{IsThat}
 use Rattle.tp_script.specs.Scripts.{IsScript}
@@ -11,3 +12,11 @@ unreachable-requires g c =
     let text : c.deref.result.now ≡ long_script c.args.number = c.deref.ensures.value ∙ c.in_ok-text.ensures in
     let that : IsThat script.0 c.parse_script.result = c.parse_script.ensures.only script.0 (subst (λ t. IsScript t script.0) (sym text) script.1) in
     subst (IsThat script.0) (c.in-Err-At.is ∙ ap Err c.in-Err-At.field-0-is) that
+
+-- the text is a script, and that one was played
+pub returns : goal.returns
+returns g c =
+    let lines = c.in-Ok.script.lines in
+    let text : c.deref.result.now ≡ long_script c.args.number = c.deref.ensures.value ∙ c.in_ok-text.ensures in
+    let script : IsScript (long_script c.args.number) lines = subst (λ t. IsScript t lines) text c.in-Ok.ensures.ok in
+    IfOk-weaker c.play_unwritten.result _ _ (λ output played. (lines, script, played)) c.play_unwritten.ensures
