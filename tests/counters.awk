@@ -2,7 +2,8 @@
 # steps of their own: what they read by it would be counted by nobody.
 #
 # A function reaches those that it calls or names behind `::`, by their names alone: all that are called so in its own
-# crate and in those that this one stands on; by `self.` only those of its own crate. So it reaches more than it calls.
+# crate and in those that this one stands on; by `self.` only those of its own crate; and what a trait declares wherever
+# it is written. So it reaches more than it calls.
 # Where changes are told apart, only the arm of a Take is looked at.
 
 FNR == NR {
@@ -63,6 +64,17 @@ function reach(crate, called, is_own, by,    each, to) {
     for (each = 1; each <= same[called]; each++) {
         to = named[called, each]
         if ((to in from) || (is_own && of[to] != crate) || !is_above(crate, of[to])) continue
+        from[to] = by
+        way[++reached] = to
+        if (text[to] !~ /\{/) reach_written(of[to], called, by)
+    }
+}
+
+# Reaches a method that a trait of this crate declares, wherever it is written: in the crates that stand on this one.
+function reach_written(crate, called, by,    each, to) {
+    for (each = 1; each <= same[called]; each++) {
+        to = named[called, each]
+        if ((to in from) || !is_above(of[to], crate) || !is_above("pool_core", of[to])) continue
         from[to] = by
         way[++reached] = to
     }
