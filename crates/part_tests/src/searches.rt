@@ -1,12 +1,16 @@
 //! A search through the states of two jugs.
 
+ghost use Rattle.std.specs.Prelude.{◌≤◌};
+
 use crate::checks::{expect_eq, expect_ok};
 use crate::jugs::Jugs;
 use breadth_first::{Answer, Measures, search};
 use std::alloc::Global;
 use std::process::Abort;
 
-fn found(rt: &impl Abort, alloc: Global, goal: u8, most: u32, measures: &mut Measures) -> Answer {
+fn found(rt: &impl Abort, alloc: Global, goal: u8, most: u32, measures: &mut Measures) -> Answer
+    requires { 1 ≤ most }
+{
     expect_ok(rt, search(alloc, &Jugs { goal }, most, 100, measures))
 }
 
