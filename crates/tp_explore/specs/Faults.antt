@@ -32,6 +32,7 @@ use Rattle.part_places.specs.Places.{is_taken, part_in}
 use Rattle.tp_explore.specs.declared.fault.Fault.{Fault}
 use Rattle.tp_explore.specs.declared.fault.FaultKind.{FaultKind}
 use Rattle.tp_explore.specs.declared.fault.FaultKind.TheVariants.{Refused, Stalled, NotQuiet, UseAfterFree, FreedTwice, FreedInUse, Left}
+use Rattle.tp_explore.specs.declared.mark.Deed.{Deed}
 use Rattle.tp_explore.specs.declared.noted.Hush.{Hush}
 use Rattle.tp_explore.specs.declared.noted.Use.{Use}
 use Rattle.tp_explore.specs.Noted.{Noted, is_hush_below, is_in_use, is_use, is_use_below, nothing_noted, with_one, without}
@@ -57,12 +58,6 @@ taken_faults w number [] = []
 taken_faults w number (hush ∷ hushes) = fault_if (option_map_or (is_run_of hush.target) (callback_of w number) false) NotQuiet hush.line ++ taken_faults w number hushes
 
 -- ---- marks that take place
-
--- a mark that takes place, of which actor, and whether in a cancel routine that a wait of its calls
-pub record Deed : Type 0 where
-  pub who : Who
-  pub visits : Bool
-  pub marked : Marked
 
 abbrev pub deed : Who → Bool → Marked → Deed
 deed who visits marked = record { who = who; visits = visits; marked = marked }

@@ -8,28 +8,15 @@
 --                            text: what a part says once it has come there. At `op` 0 they are its first marks, and behind the
 --                            last operation those at its end. A local name stands for its number in `at.locals`, 0 for none yet
 --     all_marks routine      all the marks of a routine, in the order of the text, where local names stand for none
--- Memories are numbered from 1. Objects made behind client 1's declarations have their lines from `line`.
+-- Objects made behind client 1's declarations have their lines from `line`.
 use Rattle.std.specs.Prelude.{ℕ, Bool, false, List, [], Option, None, Some}
 use Rattle.tp_base.specs.declared.ids.RoutineId.{RoutineId}
-use Rattle.tp_base.specs.declared.rows.WaitTarget.{WaitTarget}
 use Rattle.tp_script.specs.declared.routines.Part.{Part}
 use Rattle.tp_script.specs.declared.routines.Progress.{Progress}
 use Rattle.part_places.specs.Places.{Given}
-
-pub data Mark : Type 0 where
-  -- the part uses the memory from here on
-  Use : (memory : ℕ) → Mark
-  -- and no longer
-  Drop : (memory : ℕ) → Mark
-  -- the memory is gone
-  Free : (memory : ℕ) → Mark
-  -- no callback of the object or group runs from here on. Object 0 is none
-  Quiet : (target : WaitTarget) → Mark
-
--- a mark, and its line in the text
-pub record Marked : Type 0 where
-  pub mark : Mark
-  pub line : ℕ
+pub use Rattle.tp_explore.specs.declared.mark.Mark.{Mark}
+pub use Rattle.tp_explore.specs.declared.mark.Mark.TheVariants.{Use, Drop, Free, Quiet}
+pub use Rattle.tp_explore.specs.declared.mark.Marked.{Marked}
 
 pub record Watched : Type 0 where
   pub given : Given

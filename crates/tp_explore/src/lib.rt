@@ -4,20 +4,39 @@
 //! calls what may be refused, and where memories are used and freed and callbacks are to be quiet. A `Fault` is what an
 //! entry does against that; it names the line of the script at which it is told. README.md says the words.
 //! `forgetting_loses_nothing`, `orders_are_legal` and `searches_tell_of_orders` do nothing: who calls them knows what their
-//! contracts say. `replay` plays the moves that a search of boards tells on a machine, which writes down their order.
+//! contracts say. `explore` goes through all orders, by a search of boards. `replay` plays the moves that it tells on a
+//! machine, which writes down their order.
 //!
 //! ```text
 //! Fault { kind: FaultKind::UseAfterFree, line: 10 }    // a use in line 10 begins behind a free
 //! orders_are_legal();                                 // from here on each order is known to be a legal history
+//! explore::<PlainWorld>(alloc, &script, limits, 1_000_000, 60_000, &mut measures)    // Bad([0, 0, 2])
 //! replay(alloc, &mut book, &script, &[0, 0, 2])       // true: client 1 made two calls and client 2 one, as `book` tells
 //! ```
 
 #![tactic(auto)]
 
+mod boards;
+mod deeds;
+mod exploring;
 mod fault;
+mod faults;
+mod keys;
+mod led;
+mod mark;
 mod noted;
+mod notes;
+mod passage;
 mod places;
+mod plain;
 mod replayed;
+mod rising;
+mod scripts;
+mod seen;
+mod stands;
+mod told;
+mod walk;
+mod watches;
 
 ghost use Rattle.std.specs.Prelude.{◌≡◌, ℕ, List, ◌++◌};
 ghost use Rattle.breadth_first.specs.Answers.{Answers};
@@ -34,9 +53,19 @@ ghost use Rattle.part_places.specs.Places.{Given};
 ghost use Rattle.tp_explore.specs.Scenes.{scene_behind, IsOrder};
 ghost use Rattle.tp_explore.specs.Watched.{Watched};
 
+pub use boards::{Boards, PlainBoard};
+pub use breadth_first::Measures;
+pub use exploring::explore;
 pub use fault::{Fault, FaultKind};
+pub use mark::{Deed, Mark, Marked};
 pub use noted::{Hush, Use};
+pub use notes::Notes;
+pub use passage::Passage;
 pub use replayed::replay;
+pub use seen::{Moving, Seen};
+pub use told::{Begun, Happened, Story, Told};
+pub use walk::{stories_tell_all_faults, story};
+pub use watches::Watches;
 
 /// Behind orders whose scenes differ in callbacks that are over alone, the same orders go on, with the same faults
 /// whatever was noted. So a search may forget those callbacks. It does nothing: who calls it knows this.

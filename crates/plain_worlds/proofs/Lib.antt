@@ -1,0 +1,13 @@
+pub mod Firsts
+pub mod InPlace
+pub mod Joining
+pub mod Kept
+pub mod Loops
+pub mod Noting
+pub mod Once
+pub mod Passing
+pub mod Reaching
+pub mod Released
+pub mod Returning
+pub mod Telling
+pub mod Within

@@ -1,0 +1,16 @@
+-- What a search of the boards of a script answers.
+use Rattle.std.proofs.Common.{◌≡◌, ℕ}
+use Rattle.breadth_first.specs.Answers.{Answers, GivesUpFor}
+use Rattle.breadth_first.specs.declared.Answer.{Answer}
+use Rattle.tp_base.specs.declared.limits.Limits.{Limits}
+use Rattle.tp_script.specs.Parsed.{Parsed}
+use Rattle.tp_explore.specs.Boards.{rules_of}
+use Rattle.tp_explore.specs.Keys.{board_code}
+use Rattle.tp_explore.specs.Scripts.{watched}
+
+pub answers_alike : (script script2 : Parsed) (limits limits2 : Limits) (told : Answer) → script2 ≡ script → limits2 ≡ limits → Answers (rules_of (watched script2) limits2 board_code) told → Answers (rules_of (watched script) limits board_code) told
+answers_alike script script2 limits limits2 told e1 e2 is = rw (e1, e2) at is
+
+pub gives_up_alike : (script script2 : Parsed) (limits limits2 : Limits) (most deepest : ℕ) (told : Answer) → script2 ≡ script → limits2 ≡ limits → GivesUpFor (rules_of (watched script2) limits2 board_code) most deepest told
+    → GivesUpFor (rules_of (watched script) limits board_code) most deepest told
+gives_up_alike script script2 limits limits2 most deepest told e1 e2 is = rw (e1, e2) at is

@@ -1,0 +1,42 @@
+//! Plain worlds, as worlds to go through.
+
+ghost use Rattle.std.specs.Prelude.{◌≡◌};
+
+use crate::seen::{Moving, Seen};
+use plain_worlds::PlainWorld;
+use std::alloc::{AllocError, Global};
+use tp_base::limits::Limits;
+use tp_base::plans::Change;
+use tp_base::rows::{CallbackRow, ClientRow};
+
+impl Seen for PlainWorld {
+    fn callbacks(&self) -> &[CallbackRow] {
+        PlainWorld::callbacks(self)
+    }
+
+    fn clients(&self) -> &[ClientRow] {
+        PlainWorld::clients(self)
+    }
+}
+
+impl Moving for PlainWorld {
+    fn open(alloc: Global, limits: Limits) -> Result<PlainWorld, AllocError> {
+        PlainWorld::open(alloc, limits)
+    }
+
+    fn copy(&self, alloc: Global) -> Result<PlainWorld, AllocError> {
+        PlainWorld::copy(self, alloc)
+    }
+
+    fn made(&self) -> u64 {
+        PlainWorld::made(self)
+    }
+
+    fn apply(self, alloc: Global, change: &Change) -> Result<PlainWorld, AllocError> {
+        PlainWorld::apply(self, alloc, change)
+    }
+
+    fn write(&self, text: &mut Vec<u8>) -> Result<(), AllocError> {
+        PlainWorld::write(self, text)
+    }
+}
