@@ -2,7 +2,7 @@
 # where bash doesn't find it by itself: . script/completion.bash
 # shellcheck shell=bash
 
-_tpool_commands='trace show history libraries legacy windows check migrate calls-of run runs port gen big calls prove install help'
+_tpool_commands='trace show history libraries legacy windows check migrate calls-of run runs explore port gen big calls prove install help'
 
 # The options of a command.
 _tpool_options() {
@@ -12,8 +12,9 @@ _tpool_options() {
     show) echo "$plays --script" ;;
     run) echo "$plays --seed --threads --json --summary" ;;
     runs) echo "$plays --threads --json --keep --fail-on" ;;
+    explore) echo '--workers --states' ;;
     big) echo "$plays --json" ;;
-    '') echo "$plays --seed --threads --json --summary --keep --fail-on --script --version --help" ;;
+    '') echo "$plays --states --seed --threads --json --summary --keep --fail-on --script --version --help" ;;
     esac
 }
 
@@ -37,8 +38,8 @@ _tpool() {
     case $3 in
     --keep | install) mapfile -t COMPREPLY < <(compgen -d -- "$word") && return ;;
     --script) mapfile -t COMPREPLY < <(compgen -f -- "$word") && return ;;
-    --fail-on) mapfile -t COMPREPLY < <(compgen -W 'refused stalled exhausted left cancelled none' -- "$word") && return ;;
-    --workers | --events | --seed | --threads) return ;;
+    --fail-on) mapfile -t COMPREPLY < <(compgen -W 'fault refused stalled exhausted left cancelled none' -- "$word") && return ;;
+    --workers | --events | --states | --seed | --threads) return ;;
     esac
     case $command:$word in
     *:-*) mapfile -t COMPREPLY < <(compgen -W "$(_tpool_options "$command")" -- "$word") ;;

@@ -32,10 +32,10 @@ find_cause() {
     rest=$(rest_of_line "$line" "$column" 60)
     case $command:$line:$column:$rest in
     *:1:1:device) cause='these are devices, it seems: ./tpool port reads them' ;;
-    trace:1:1:'history '* | libraries:1:1:'history '* | legacy:1:1:'history '* | windows:1:1:'history '* | port:1:1:'history '* | run*:1:1:'history '*) cause='this is a history: ./tpool check reads it' ;;
+    trace:1:1:'history '* | libraries:1:1:'history '* | legacy:1:1:'history '* | windows:1:1:'history '* | port:1:1:'history '* | run*:1:1:'history '* | explore:1:1:'history '*) cause='this is a history: ./tpool check reads it' ;;
     history:1:1:'history '*) cause='this is a history: ./tpool check reads it, and ./tpool migrate writes it in format 2' ;;
-    port:1:1:[cw][0-9]* | run*:1:1:[cw][0-9]*) cause='this is a trace: ./tpool trace plays it' ;;
-    run*) cause=$(find_in_script "$line" "$column") ;;
+    port:1:1:[cw][0-9]* | run*:1:1:[cw][0-9]* | explore:1:1:[cw][0-9]*) cause='this is a trace: ./tpool trace plays it' ;;
+    run* | explore) cause=$(find_in_script "$line" "$column") ;;
     check:1:1:[cw][0-9]*) cause='this is a trace: ./tpool trace reads it, and ./tpool history makes a history of it' ;;
     *:*:*:[#\;]* | *:*:*:\ [#\;]* | *:*:*:'//'* | *:*:*:' //'* | *:*:*:'--'* | *:*:*:' --'*)
         cause='there are no comments, but in scripts, which ./tpool run plays'
@@ -51,7 +51,7 @@ find_cause() {
     esac
     [[ -n $cause ]] || find_byte "$line" "$column" "$rest"
     [[ -n $cause || $command != check || $(rest_of_line "$line" 1 4) != 'end ' ]] || cause='the end line has the number of the entries'
-    [[ $command == run* || -n $cause && $cause != 'the line ends here, '* ]] || find_form "$line" "$column"
+    [[ $command == run* || $command == explore || -n $cause && $cause != 'the line ends here, '* ]] || find_form "$line" "$column"
     cause=${cause:-no good line goes on like this}
 }
 

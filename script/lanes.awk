@@ -3,11 +3,13 @@
 # time goes down the page; what an actor did alone before all others stands above the lanes. What stands behind the
 # history, as its summary, is below, and above that who waited for whom in a wait that stalled. The first file is the
 # script that the history came of, if it is known, and the entry `wrong` has an answer that is not the machine's,
-# which is `said`, or another moment than the one that is `said`.
+# which is `said`, or another moment than the one that is `said`. Marks of a script that took place at an entry stand
+# below it, each behind a `*`.
 
 FILENAME == ARGV[1] { read_script_line($0); next }
 !begun++ { workers = $6; begin_names(); next }
 over && $1 == "name" { take_name($0); next }
+over && $1 == "mark" { take_mark($0); next }
 over { below[++behind] = $0; next }
 /^end / { over = 1; next }
 
@@ -44,6 +46,13 @@ function tell_entry(at,    call, answer, cut) {
     }
 }
 
+# A line `mark ENTRY ACTOR MARK` behind the end: a mark of the script took place at that entry.
+function take_mark(line,    word) {
+    split(line, word, " ")
+    marker[word[2], ++marks[word[2]]] = word[3]
+    mark[word[2], marks[word[2]]] = "* " word[4] " " word[5]
+}
+
 function lay_out(    alone) {
     digits = length(count "")
     while (by[alone + 1] == by[1] && alone < count) alone++
@@ -55,23 +64,27 @@ function lay_out(    alone) {
     print_lanes(alone + 1)
 }
 
-function print_list(from, to,    at, width, form) {
+function print_list(from, to,    at, width, form, each) {
     for (at = from; at <= to; at++) if (length(calls[at]) > width) width = length(calls[at])
     form = "%" digits "d  %-3s  %-" width "s  %s\n"
-    for (at = from; at <= to; at++) printf form, at, by[at], calls[at], answers[at]
+    for (at = from; at <= to; at++) {
+        printf form, at, by[at], calls[at], answers[at]
+        for (each = 1; each <= marks[at]; each++) printf "%" digits "s  %-3s  %s\n", "", marker[at, each], mark[at, each]
+    }
 }
 
 # --- Lanes
 
 # Finds the lanes of the entries from one on: whether there are columns enough for all. The wider ones are made
 # narrower, as far as that is needed.
-function make_lanes(from,    at, size, widest, most) {
+function make_lanes(from,    at, each, size, widest, most) {
     lanes = 0
     split("", width)
     for (at = from; at <= count; at++) {
         size = length(calls[at]) + length(answers[at]) + 4
         if (size > width[by[at]]) width[by[at]] = size
         if (size > widest) widest = size
+        for (each = 1; each <= marks[at]; each++) if (!(marker[at, each] in width)) width[marker[at, each]] = length(mark[at, each])
     }
     add_lanes("c", 16)
     add_lanes("w", 64)
@@ -97,10 +110,11 @@ function taken(most,    at, sum) {
 }
 
 # The names of the actors stand above, and again where they may have gone off the screen.
-function print_lanes(from,    at) {
+function print_lanes(from,    at, each) {
     for (at = from; at <= count; at++) {
         if ((at - from) % 40 == 0) print_names()
         print_in_lane(sprintf("%" digits "d", at), calls[at], "-> " answers[at], left[by[at]], width[by[at]])
+        for (each = 1; each <= marks[at]; each++) print_at(left[marker[at, each]], "", mark[at, each])
     }
 }
 

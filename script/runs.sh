@@ -45,7 +45,7 @@ probe() {
     status=$?
     seconds=$(((${EPOCHREALTIME/[.,]/} - begin) * runs / shares / 1000000))
     case $status in
-    0 | 8 | 9) ((seconds < long)) || say "$runs runs take about $(span "$seconds")" ;;
+    0 | 8 | 9 | 10) ((seconds < long)) || say "$runs runs take about $(span "$seconds")" ;;
     *) hand_on "$said" "$status" ;;
     esac
 }
@@ -78,7 +78,7 @@ play_share() {
         status=$?
         [[ -z $interrupted && ! -e $room/wrong ]] || break
         case $status in
-        0 | 8 | 9) ended+=("$number" "$status") ;;
+        0 | 8 | 9 | 10) ended+=("$number" "$status") ;;
         *)
             cp said "$room/said" && echo "$status" >"$room/wrong"
             break
@@ -148,6 +148,7 @@ keep_histories() {
 
 # The status for the kinds of --fail-on that came: as the program's own, where it has one.
 status_of_runs() {
+    ! came fault || return 10
     ! came 'exhausted left' || return 8
     ! came stalled || return 9
     ! came 'refused cancelled' || return 7

@@ -116,7 +116,7 @@ session() {
 
 typed() {
     input=
-    try "$1: $2" '~[0-9]' "$3" '' inside "$here" with_errors bash -c "$2"
+    try "$1: $2" '~@([0-9]|10)' "$3" '' inside "$here" with_errors bash -c "$2"
 }
 with_errors() { "$@" 2>&1; }
 
@@ -236,7 +236,7 @@ unused_crates() {
         }' - "$here/crates.txt"
 }
 # Besides, those that are for programs of one's own: the search, the orders of a script, and keys of worlds.
-try 'a program stands on each crate but those of tests and of the search' 0 $'plan_table\nplain_worlds\nbreadth_first\nshort_codes\nrow_codes\ntp_explore\nrun_orders\norder_lines\nmachine_tests\npart_tests\n' '' unused_crates
+try 'a program stands on each crate but those of tests and the one on runs and orders' 0 $'run_orders\nmachine_tests\npart_tests\n' '' unused_crates
 crate_names() { sed -n 's/^\([a-z][a-z_0-9]*\):.*/\1/p' crates.txt; }
 
 # The files of some crates in which a word of a pattern stands, but for worked examples.

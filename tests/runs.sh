@@ -328,12 +328,12 @@ as_json() {
 ! command -v python3 >/dev/null ||
     try 'the table as JSON' 0 $'30 30 True [\'folder\', \'histories\', \'kinds\', \'longest\', \'of\', \'runs\', \'shortest\', \'things\', \'threads\']\n' '' as_json
 try 'an empty script is told' 0 '~3 runs, of the seeds 1 to 3: *' $'tpool: the script is empty\n' "$tpool" runs - 3
-# How many runs of a script had a refusal.
-refusals() { "$tpool" runs "$@" --json 2>/dev/null | sed 's/.*"things"://' | awk '{ print (/"came":"refused released"/ ? "some" : "none") }'; }
-try 'a timer that is left set is found' 0 $'some\n' '' refusals "$here/examples/timer-left-set.script" 100
-try 'one that is unset has nothing to be found' 0 $'none\n' '' refusals "$here/examples/timer-unset.script" 1000
-try 'who is told behind the wait for those who ask submits too late' 0 $'some\n' '' refusals "$here/examples/guide-told-late.script" 100
-try 'who is told before it does not' 0 $'none\n' '' refusals "$here/examples/guide-told-first.script" 1000
+# Whether a run of a script had a fault.
+faults_of() { "$tpool" runs "$@" --json 2>/dev/null | sed 's/.*"things"://' | awk '{ print (/"came":"fault / ? "some" : "none") }'; }
+try 'a timer that is left set is found' 0 $'some\n' '' faults_of "$here/examples/timer-left-set.script" 100
+try 'one that is unset has nothing to be found' 0 $'none\n' '' faults_of "$here/examples/timer-unset.script" 1000
+try 'who is told behind the wait for those who ask submits too late' 0 $'some\n' '' faults_of "$here/examples/guide-told-late.script" 100
+try 'who is told before it does not' 0 $'none\n' '' faults_of "$here/examples/guide-told-first.script" 1000
 # What came of the runs of a script.
 things_of() { "$tpool" runs "$@" --json 2>/dev/null | sed 's/.*"things":\[//' | grep -o '"came":"[^"]*"'; }
 try 'a read that comes under way behind the cancel is never over' 0 $'"came":"stalled"\n"came":"left issued"\n' '' things_of "$here/examples/pipe-told-late.script" 100

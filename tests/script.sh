@@ -47,7 +47,7 @@ refuses '--keep is no option of run' run --keep a b
 refuses '--summary is no option of runs' runs --summary b
 refuses '--script wants a word behind it' show --script
 refuses '--seed is no option of runs, which plays each seed' runs --seed 1 a
-refuses '--fail-on wants refused, stalled, exhausted, left or cancelled, with commas between, or none' runs --fail-on stall a
+refuses '--fail-on wants fault, refused, stalled, exhausted, left or cancelled, with commas between, or none' runs --fail-on stall a
 refuses 'install wants the folder to install below' install
 refuses 'one word too many: b' install a b
 too_wide() { "$tpool" help | awk 'length > 80'; }
@@ -110,6 +110,10 @@ try 'a pipe' 0 "$answers" '' by_pipe "$tpool" trace
 try 'a pipe by its sign, behind the sign of no more options' 0 "$answers" '' by_pipe "$tpool" trace -- -
 by_substitution() { "$@" <(cat "$trace"); }
 try 'a pipe as a file' 0 "$answers" '' by_substitution "$tpool" trace
+for said in $'none\nstates 3\nsteps 2\n' $'gave up at 100 states\ndeep 9\n'; do
+    input=$said
+    try 'what is said of all orders is shown as it is' 0 "$said" '' "$tpool" show
+done
 after_a_line() { { read -r _ && "$@"; } <"$room/input"; }
 input=$'w1 attach\nw1 take\nw1 \ttake\n'
 try 'a file from its second line on' 2 '' $'tpool: bad line 2 column 4\n2:4: a tab: one space stands between two words\n    w1 ?take\n       ^\n' after_a_line "$tpool" trace

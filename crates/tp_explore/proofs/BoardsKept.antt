@@ -1,5 +1,5 @@
 -- Boards as they are kept: what comes of an entry, and of a move.
-use Rattle.std.proofs.Common.{◌≡◌, ℕ, ◌+◌, ◌==◌, true, false, List, [], ◌∷◌, length, None, Some, refl, subst, sym, arith, slice_set}
+use Rattle.std.proofs.Common.{◌≡◌, ℕ, ◌+◌, ◌==◌, true, false, List, [], ◌∷◌, length, None, Some, refl, sym, arith, slice_set}
 use Rattle.std.proofs.lemmas.Bool.{eqb-true}
 use Rattle.breadth_first.specs.declared.Next.TheVariants.{Bad, Nowhere, To}
 use Rattle.tp_base.specs.declared.answers.Entry.{Entry}
@@ -40,14 +40,6 @@ module _ (k : Watched) (limits : Limits) where
   some_faults b [] e = cc
   some_faults b (fault ∷ faults) e = refl
 
-  -- where all are behind an entry, once it is written back
-  pub gone : (who : Who) (call : Call) (told : Answer) (written new old places : List Place)
-      → written ≡ new
-      → new ≡ slice_set old (place_in_row limits who) (place_after k.given who (place_at limits old who) call told)
-      → old ≡ places
-      → written ≡ slice_set places (place_in_row limits who) (place_after k.given who (place_at limits places who) call told)
-  gone who call told written new old places e1 e2 e3 = rw (e1, e2, e3) refl
-
   -- what comes of an entry is told by where its actor was and is, and by what it brings
   pub comes : (b : Board) (e : Entry) (w : World) (made : ℕ) (places : List Place) (before after : Place) (noted : Noted) (faults : List Fault)
       → places ≡ slice_set b.places (place_in_row limits e.who) (place_after k.given e.who (place_at limits b.places e.who) e.call e.answer)
@@ -84,22 +76,15 @@ module _ (k : Watched) (limits : Limits) where
   by_change b who call plan told change e w made e1 e2 e3 e4 = rw (e1, e2, e3, e4) refl
 
   -- a move of a board that is kept by its parts
-  pub moves : (b : Board) (w : World) (made : ℕ) (places kept same : List Place) (noted : Noted) (who : Who) (by : ℕ) (call : Call)
+  pub moves : (b : Board) (w : World) (made : ℕ) (places : List Place) (noted : Noted) (who : Who) (by : ℕ) (call : Call)
       → b ≡ board_of w made places noted
-      → kept ≡ places
-      → same ≡ places
       → who ≡ mover limits by
-      → Some call ≡ call_by k.given limits (record { world = w; places = place_at limits kept }) by
-      → planned k limits (board_of w made same noted) who call (plan_at w (made + 1) ample who call) ≡ after_board k limits b by
-  moves b w made places kept same noted who by call e1 e2 e3 e4 found =
-      let calls : call_by k.given limits (record { world = w; places = place_at limits places }) by ≡ Some call = subst (λ (ps : List Place). call_by k.given limits (record { world = w; places = place_at limits ps }) by ≡ Some call) e2 (sym found) in
-      rw (e1, e3, e4) (by_call (board_of w made places noted) by call calls)
+      → Some call ≡ call_by k.given limits (record { world = w; places = place_at limits places }) by
+      → planned k limits (board_of w made places noted) who call (plan_at w (made + 1) ample who call) ≡ after_board k limits b by
+  moves b w made places noted who by call e1 e2 found = rw (e1, e2) (by_call (board_of w made places noted) by call (sym found))
 
-  pub stays : (b : Board) (w : World) (made : ℕ) (places kept : List Place) (noted : Noted) (by : ℕ)
+  pub stays : (b : Board) (w : World) (made : ℕ) (places : List Place) (noted : Noted) (by : ℕ)
       → b ≡ board_of w made places noted
-      → kept ≡ places
-      → None ≡ call_by k.given limits (record { world = w; places = place_at limits kept }) by
+      → None ≡ call_by k.given limits (record { world = w; places = place_at limits places }) by
       → Nowhere ≡ after_board k limits b by
-  stays b w made places kept noted by e1 e2 none =
-      let calls : call_by k.given limits (record { world = w; places = place_at limits places }) by ≡ None = subst (λ (ps : List Place). call_by k.given limits (record { world = w; places = place_at limits ps }) by ≡ None) e2 (sym none) in
-      rw e1 (by_none (board_of w made places noted) by calls)
+  stays b w made places noted by e none = rw e (by_none (board_of w made places noted) by (sym none))

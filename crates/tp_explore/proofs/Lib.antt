@@ -14,4 +14,3 @@ pub mod Replaying
 pub mod Searched
 pub mod Standing
 pub mod Telling
-pub mod Written

@@ -12,6 +12,7 @@ use Rattle.tp_explore.specs.declared.noted.Hush.{Hush}
 use Rattle.tp_explore.specs.declared.noted.Use.{Use}
 use Rattle.tp_explore.specs.Boards.{Board}
 use Rattle.tp_explore.specs.Keys.{board_code, hush_code, noted_code, place_code, progress_code, stage_code, use_code}
+use Rattle.tp_explore.specs.Names.{is_names_code}
 use Rattle.tp_explore.specs.Noted.{Noted}
 
 -- the first byte of a text
@@ -34,7 +35,7 @@ is_progress_code = mapped_code
     (λ (at : Progress). ((((at.op, at.done), at.met), at.ending), at.locals))
     (λ q. record { op = q.0.0.0.0; done = q.0.0.0.1; met = q.0.0.1; ending = q.0.1; locals = q.1 })
     (λ at. refl)
-    (pair_code (pair_code (pair_code (pair_code number_code number_code) flag_code) flag_code) (list_code number_code))
+    (pair_code (pair_code (pair_code (pair_code number_code number_code) flag_code) flag_code) is_names_code)
 
 pub is_place_code : IsCode place_code
 is_place_code = mapped_code

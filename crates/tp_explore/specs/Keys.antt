@@ -1,5 +1,5 @@
 -- The key of a board: a text that tells all boards apart.
-use Rattle.std.specs.Prelude.{ℕ, List, ◌++◌}
+use Rattle.std.specs.Prelude.{ℕ, suc, ◌==◌, ◌&&◌, if◌then◌else◌, List, [], ◌∷◌, ◌++◌, length, take}
 use Rattle.short_codes.specs.Codes.{flag, listed, number}
 use Rattle.row_codes.specs.Rows.{routine_id_code, target_code, who_code}
 use Rattle.row_codes.specs.Worlds.{world_code}
@@ -19,8 +19,17 @@ stage_code Away = number 2
 stage_code Idle = number 3
 stage_code (Busy routine) = number 4 ++ routine_id_code routine
 
+-- how many names there are before the zeros at the end
+abbrev pub used : List ℕ → ℕ
+used [] = 0
+used (name ∷ names) = if (name == 0) && (used names == 0) then 0 else suc (used names)
+
+-- how many names there are, and those before the zeros at the end
+abbrev pub names_code : List ℕ → List ℕ
+names_code names = number (length names) ++ listed number (take (used names) names)
+
 abbrev pub progress_code : Progress → List ℕ
-progress_code at = number at.op ++ number at.done ++ flag at.met ++ flag at.ending ++ listed number at.locals
+progress_code at = number at.op ++ number at.done ++ flag at.met ++ flag at.ending ++ names_code at.locals
 
 abbrev pub place_code : Place → List ℕ
 place_code p = stage_code p.stage ++ flag p.waits ++ progress_code p.at ++ flag p.cut

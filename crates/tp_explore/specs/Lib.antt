@@ -8,6 +8,7 @@ pub mod Kept
 pub mod Keys
 pub mod Led
 pub mod Legal
+pub mod Names
 pub mod Noted
 pub mod Replayed
 pub mod Rising

@@ -1,6 +1,6 @@
 //! Boards: what is kept of a scene and of what was noted before it, and the moves from one to the next.
 
-ghost use Rattle.std.specs.Prelude.{◌≡◌, ◌+◌, ℕ, slice_set, IfOk};
+ghost use Rattle.std.specs.Prelude.{◌≡◌, ◌+◌, ℕ, IfOk};
 ghost use Rattle.tp_base.specs.declared.answers.Answer.{Answer};
 ghost use Rattle.tp_base.specs.declared.limits.Limits.{Limits};
 ghost use Rattle.tp_base.specs.declared.plans.Change.{Change};
@@ -8,8 +8,7 @@ ghost use Rattle.tp_base.specs.Ranges.{AreLimitsInRange};
 ghost use Rattle.tp_model.specs.Support.Allowed.{IsAllowed};
 ghost use Rattle.tp_model.specs.Table.{plan_at};
 ghost use Rattle.tp_model.specs.World.{World};
-ghost use Rattle.part_places.specs.Places.{place_after};
-ghost use Rattle.tp_explore.specs.Boards.{first_board, moved, place_at, place_in_row, planned, to_board};
+ghost use Rattle.tp_explore.specs.Boards.{first_board, moved, planned, to_board};
 ghost use Rattle.tp_explore.specs.Keys.{board_code};
 ghost use Rattle.tp_explore.specs.Kept.{board_of};
 ghost use Rattle.tp_explore.specs.Scenes.{ample};
@@ -18,13 +17,13 @@ ghost use Rattle.tp_explore.specs.Watched.{Watched};
 
 use crate::fault::Fault;
 use crate::faults::enter;
+use crate::kept::KeptRow;
 use crate::keys::{put_notes, put_places};
 use crate::notes::Notes;
 use crate::passage::Passage;
-use crate::places::{call_by, first_places, go_on, mover, place_at, width};
+use crate::places::{Row, call_by, mover, width};
 use crate::seen::Moving;
 use breadth_first::{Next, System};
-use part_places::Place;
 use plan_table::plan_of;
 use std::alloc::{AllocError, Global};
 use std::marker::{Model, PhantomData};
@@ -42,7 +41,7 @@ const AMPLE: u64 = 4;
 #[derive(Drop)]
 pub struct PlainBoard<V: Moving> {
     world: V,
-    places: Vec<Place>,
+    places: KeptRow,
     notes: Notes,
 }
 
@@ -51,7 +50,7 @@ impl<V: Moving> Model for PlainBoard<V> {
 
     ghost Value = { Board };
 
-    ghost view = { λ a. record { world = V.world_of a.world; made = V.made_of a.world; places = a.places.items; noted = a.notes } };
+    ghost view = { λ a. record { world = V.world_of a.world; made = V.made_of a.world; places = a.places; noted = a.notes } };
 }
 
 /// The boards of a script, and the moves between them.
@@ -86,7 +85,7 @@ impl<V: Moving> PlainBoard<V> {
     {
         Ok(PlainBoard {
             world: V::open(alloc, limits)?,
-            places: first_places(alloc, &limits)?,
+            places: KeptRow::first(alloc, &limits)?,
             notes: Notes::new(alloc),
         })
     }
@@ -107,48 +106,35 @@ impl<V: Moving> PlainBoard<V> {
     {
         let mut text = Vec::new(alloc);
         self.world.write(&mut text)?;
-        put_places(&self.places, &mut text)?;
+        put_places(self.places.places(), &mut text)?;
         put_notes(&self.notes, &mut text)?;
-        Ok(text)
+        // A text that grew has room to spare, and keys are what a search has most of.
+        Vec::from_slice(alloc, &text)
     }
 }
 
 impl<'a, V: Moving> Boards<'a, V> {
-    // Where all are behind an entry.
-    fn places_behind(
-        &self,
-        alloc: Global,
-        places: &[Place],
-        entry: &Entry,
-    ) -> Result<Vec<Place>, AllocError>
-        ensures { IfOk result (λ behind. behind.items ≡ slice_set places.now (place_in_row self.now.limits entry.now.who) (place_after (watched self.now.script.now).given entry.now.who (place_at self.now.limits places.now entry.now.who) entry.now.call entry.now.answer)) }
-    {
-        let mut behind = Vec::from_slice(alloc, places)?;
-        go_on(
-            &self.limits,
-            &mut behind,
-            self.script,
-            entry.who,
-            &entry.call,
-            &entry.answer,
-        );
-        Ok(behind)
-    }
-
     // What comes of an entry that leads to a world: the board behind it, unless it brings faults.
     fn behind(
         &self,
         alloc: Global,
-        places: &[Place],
+        places: &KeptRow,
         notes: &Notes,
         entry: Entry,
         world: V,
     ) -> Result<Next<PlainBoard<V>>, AllocError>
         ensures { (w : World) (made : ℕ) → IfOk result (λ next. next ≡ moved (watched self.now.script.now) self.now.limits (board_of w made places.now notes.now) entry (V.world_of world) (V.made_of world)) }
     {
-        let before = place_at(&self.limits, places, entry.who);
-        let places = self.places_behind(alloc, places, &entry)?;
-        let after = place_at(&self.limits, &places, entry.who);
+        let before = places.at(&self.limits, entry.who);
+        let places = places.behind(
+            alloc,
+            &self.limits,
+            self.script,
+            entry.who,
+            &entry.call,
+            &entry.answer,
+        )?;
+        let after = places.at(&self.limits, entry.who);
         let passage = Passage {
             entry,
             before,
@@ -176,7 +162,7 @@ impl<'a, V: Moving> Boards<'a, V> {
         &self,
         alloc: Global,
         world: &V,
-        places: &[Place],
+        places: &KeptRow,
         notes: &Notes,
         who: Who,
         call: &Call,
@@ -204,7 +190,7 @@ impl<'a, V: Moving> Boards<'a, V> {
         &self,
         alloc: Global,
         world: &V,
-        places: &[Place],
+        places: &KeptRow,
         notes: &Notes,
         who: Who,
         call: &Call,

@@ -2,9 +2,10 @@
 
 ghost use Rattle.std.specs.Prelude.{◌≡◌, ◌++◌, OnOk};
 ghost use Rattle.short_codes.specs.Codes.{each, listed};
-ghost use Rattle.tp_explore.specs.Keys.{hush_code, noted_code, place_code, progress_code, stage_code, use_code};
+ghost use Rattle.tp_explore.specs.Keys.{hush_code, names_code, noted_code, place_code, progress_code, stage_code, use_code, used};
 ghost use Rattle.tp_explore.specs.AreKeys.{is_hush_code, is_use_code};
 
+use crate::kept::KeptPlace;
 use crate::noted::{Hush, Use};
 use crate::notes::Notes;
 use part_places::Place;
@@ -37,18 +38,18 @@ impl Coded for Hush {
 }
 
 /// Appends how many places there are, and the code of each.
-pub(crate) fn put_places(places: &[Place], text: &mut Vec<u8>) -> Result<(), AllocError>
+pub(crate) fn put_places(places: &[KeptPlace], text: &mut Vec<u8>) -> Result<(), AllocError>
     ensures { OnOk result (text.new.items ≡ text.old.items ++ listed place_code places.now) }
 {
     put(text, places.len() as u64)?;
     put_each(places, text)
 }
 
-fn put_each(places: &[Place], text: &mut Vec<u8>) -> Result<(), AllocError>
+fn put_each(places: &[KeptPlace], text: &mut Vec<u8>) -> Result<(), AllocError>
     ensures { OnOk result (text.new.items ≡ text.old.items ++ each place_code places.now) }
 {
-    for place in places {
-        put_place(place, text)?;
+    for kept in places {
+        put_place(&kept.place(), text)?;
     }
     Ok(())
 }
@@ -84,7 +85,28 @@ fn put_progress(at: &Progress, text: &mut Vec<u8>) -> Result<(), AllocError>
     at.done.put(text)?;
     put_flag(text, at.met)?;
     put_flag(text, at.ending)?;
-    put_all(&at.locals, text)
+    put_names(&at.locals, text)
+}
+
+// Most parts have few names, and most of a board's key would be their zeros.
+fn put_names(names: &[u64], text: &mut Vec<u8>) -> Result<(), AllocError>
+    ensures { OnOk result (text.new.items ≡ text.old.items ++ names_code names.now) }
+{
+    put(text, names.len() as u64)?;
+    put_all(&names[..used(names)], text)
+}
+
+// How many names there are before the zeros at the end.
+fn used(names: &[u64]) -> usize
+    ensures { result ≡ used names.now }
+{
+    let mut used = 0;
+    for place in 0..names.len() {
+        if names[place] != 0 {
+            used = place + 1;
+        }
+    }
+    used
 }
 
 /// Appends the code of what is noted.

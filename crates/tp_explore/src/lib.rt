@@ -21,6 +21,7 @@ mod deeds;
 mod exploring;
 mod fault;
 mod faults;
+mod kept;
 mod keys;
 mod led;
 mod mark;

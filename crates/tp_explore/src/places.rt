@@ -42,8 +42,8 @@ pub(crate) fn mover(limits: &Limits, by: u32) -> Who
     actor_of(limits, by / 2 + 1)
 }
 
-// Where in the row an actor stands.
-fn place_in_row(limits: &Limits, who: Who) -> usize
+/// Where in the row an actor stands.
+pub(crate) fn place_in_row(limits: &Limits, who: Who) -> usize
     ensures { result ≡ place_in_row limits.now who }
 {
     match who {
@@ -67,21 +67,34 @@ pub(crate) fn first_places(alloc: Global, limits: &Limits) -> Result<Vec<Place>,
     Ok(places)
 }
 
-pub(crate) fn place_at(limits: &Limits, places: &[Place], who: Who) -> Place
-    ensures { result ≡ place_at limits.now places.now who }
-{
-    match places.get(place_in_row(limits, who)) {
-        Some(place) => *place,
-        None => Place::opening(who),
+/// The places of all actors, in a row.
+pub(crate) trait Row {
+    ghost use Rattle.std.specs.Prelude.{List};
+    ghost use Rattle.part_places.specs.declared.place.Place.{Place};
+
+    ghost places_of: { Self → List Place };
+
+    /// Where an actor is.
+    fn at(&self, limits: &Limits, who: Who) -> Place
+        ensures { result ≡ place_at limits.now (places_of self.now) who };
+}
+
+impl Row for Vec<Place> {
+    ghost places_of = { λ a. a.items };
+
+    fn at(&self, limits: &Limits, who: Who) -> Place {
+        match self.get(place_in_row(limits, who)) {
+            Some(place) => *place,
+            None => Place::opening(who),
+        }
     }
 }
 
 // Whether an actor may have a turn: client 1 makes its calls before all others.
-fn has_turn(limits: &Limits, places: &[Place], who: Who) -> bool
-    ensures { (w : World) → result ≡ has_turn (record { world = w; places = place_at limits.now places.now }) who }
+fn has_turn<P: Row>(limits: &Limits, places: &P, who: Who) -> bool
+    ensures { (w : World) → result ≡ has_turn (record { world = w; places = place_at limits.now (P.places_of places.now) }) who }
 {
-    matches!(who, Who::Client(1))
-        || matches!(place_at(limits, places, Who::Client(1)).stage, Stage::Over)
+    matches!(who, Who::Client(1)) || matches!(places.at(limits, Who::Client(1)).stage, Stage::Over)
 }
 
 // The turn of a number from 0 that an actor has at a place.
@@ -100,31 +113,31 @@ fn turn_at<R: Routines>(place: &Place, who: Who, routines: &R, number: u32) -> O
 }
 
 // The turn of a number that an actor has.
-fn turn_in<R: Routines>(
+fn turn_in<P: Row, R: Routines>(
     limits: &Limits,
-    places: &[Place],
+    places: &P,
     routines: &R,
     who: Who,
     number: u32,
 ) -> Option<Call>
-    ensures value { (w : World) → result ≡ turn_in (given R.next_of R.after_of routines.now) (record { world = w; places = place_at limits.now places.now }) who number }
+    ensures value { (w : World) → result ≡ turn_in (given R.next_of R.after_of routines.now) (record { world = w; places = place_at limits.now (P.places_of places.now) }) who number }
     ensures in_range { IfSome result IsCallInRange }
 {
     if has_turn(limits, places, who) {
-        turn_at(&place_at(limits, places, who), who, routines, number)
+        turn_at(&places.at(limits, who), who, routines, number)
     } else {
         None
     }
 }
 
 // The call that a move makes, if it makes one.
-pub(crate) fn call_by<R: Routines>(
+pub(crate) fn call_by<P: Row, R: Routines>(
     limits: &Limits,
-    places: &[Place],
+    places: &P,
     routines: &R,
     by: u32,
 ) -> Option<Call>
-    ensures value { (w : World) → result ≡ call_by (given R.next_of R.after_of routines.now) limits.now (record { world = w; places = place_at limits.now places.now }) by }
+    ensures value { (w : World) → result ≡ call_by (given R.next_of R.after_of routines.now) limits.now (record { world = w; places = place_at limits.now (P.places_of places.now) }) by }
     ensures in_range { IfSome result IsCallInRange }
 {
     turn_in(limits, places, routines, mover(limits, by), by % 2)
@@ -133,16 +146,16 @@ pub(crate) fn call_by<R: Routines>(
 // The actor goes on behind a call and its answer.
 pub(crate) fn go_on<R: Routines>(
     limits: &Limits,
-    places: &mut [Place],
+    places: &mut Vec<Place>,
     routines: &R,
     who: Who,
     call: &Call,
     answer: &Answer,
 )
-    ensures { places.new ≡ slice_set places.old (place_in_row limits.now who) (place_after (given R.next_of R.after_of routines.now) who (place_at limits.now places.old who) call.now answer.now) }
+    ensures { places.new.items ≡ slice_set places.old.items (place_in_row limits.now who) (place_after (given R.next_of R.after_of routines.now) who (place_at limits.now places.old.items who) call.now answer.now) }
 {
     let index = place_in_row(limits, who);
-    let mut place = place_at(limits, places, who);
+    let mut place = places.at(limits, who);
     place.goes_on(who, routines, true, call, answer);
     if index < places.len() {
         places[index] = place;

@@ -55,14 +55,14 @@ fn play<B: Recorded, R: Routines>(
     book: &mut B,
     routines: &R,
     limits: &Limits,
-    places: &mut [Place],
+    places: &mut Vec<Place>,
     by: u32,
 ) -> bool
     requires limits { limits.now ≡ (B.recording book.old).limits }
     requires in_range { AreLimitsInRange limits.now }
     ensures machine { IsSameMachine (B.recording book.old) (B.recording book.new) }
-    ensures played { result ≡ true → (moves : List ℕ) → IsReplaying (given R.next_of R.after_of routines.now) moves (B.recording book.old) places.old → IsReplaying (given R.next_of R.after_of routines.now) (moves ++ by ∷ []) (B.recording book.new) places.new }
-    ensures whole { (moves more : List ℕ) (rest : List Entry) → IsReplaying (given R.next_of R.after_of routines.now) moves (B.recording book.old) places.old → GoesOnBy (given R.next_of R.after_of routines.now) (B.recording book.old) (by ∷ more) rest → (result ≡ true) × HasGoneOn (given R.next_of R.after_of routines.now) (B.recording book.old) (B.recording book.new) more rest }
+    ensures played { result ≡ true → (moves : List ℕ) → IsReplaying (given R.next_of R.after_of routines.now) moves (B.recording book.old) places.old.items → IsReplaying (given R.next_of R.after_of routines.now) (moves ++ by ∷ []) (B.recording book.new) places.new.items }
+    ensures whole { (moves more : List ℕ) (rest : List Entry) → IsReplaying (given R.next_of R.after_of routines.now) moves (B.recording book.old) places.old.items → GoesOnBy (given R.next_of R.after_of routines.now) (B.recording book.old) (by ∷ more) rest → (result ≡ true) × HasGoneOn (given R.next_of R.after_of routines.now) (B.recording book.old) (B.recording book.new) more rest }
 {
     if by >= width(limits) || book.room() < AMPLE {
         return false;

@@ -168,4 +168,4 @@ one_order lists p q few a b =
 pub one_output : (devices : List (List Operation)) (a b : List ℕ) (ends other_ends : Ending) → length (numbered devices) ≡ length devices → length devices ≤ 1 → IsPorted devices a ends → IsPorted devices b other_ends → (a ≡ b) × (ends ≡ other_ends)
 one_output devices a b ends other_ends count few p q =
     let same : p.posted ≡ q.posted = one_order (numbered devices) p.posted q.posted (omega (arith, count, few)) p.each q.each in
-    (p.output_is ∙ ap (λ posted. printed (record { history = true; json = false }) (limits_of devices) 65536 (history_of devices posted)) same ∙ sym q.output_is, p.ends ∙ sym q.ends)
+    (p.output_is ∙ ap (λ posted. printed (record { history = true; json = false; faults = false }) (limits_of devices) 65536 (history_of devices posted)) same ∙ sym q.output_is, p.ends ∙ sym q.ends)

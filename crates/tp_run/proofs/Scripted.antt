@@ -1,5 +1,5 @@
 -- What the program makes of the run of a script.
-use Rattle.std.proofs.Common.{◌≡◌, ℕ, Bool, true, false, List, Option, None, Some, Result, Ok, Err, ◌<◌, arith, refl, sym, ap, ◌∙◌, subst, inl, inr}
+use Rattle.std.proofs.Common.{◌≡◌, ℕ, Bool, true, false, cond, List, [], ◌∷◌, Option, None, Some, Result, Ok, Err, ◌<◌, arith, refl, sym, ap, ◌∙◌, subst, inl, inr}
 use Rattle.std.specs.Prelude.{◌↔◌, IfErr, IfOk, IfSome}
 use Rattle.std.specs.Result.{IsErrAnd}
 use Rattle.std.proofs.lemmas.Bool.{false≢true}
@@ -14,13 +14,16 @@ use Rattle.tp_model.specs.Laws.{KeepsLaws}
 use Rattle.tp_report.specs.Summaries.{totals_behind, IsNoneLost}
 use Rattle.recorded.specs.declared.TheConstants.{OBJECT_LIMIT as machine_most}
 use Rattle.script_lines.specs.declared.state.TheConstants.{OBJECT_LIMIT as declared_most}
-use Rattle.tp_run.specs.Played.{ending_by, has_pending, limits_for, long_script, printed, routines_of, EndsRun, IsOfOne, IsOutputOf, IsPlayed, RanOut}
+use Rattle.tp_explore.specs.Scripts.{watched}
+use Rattle.tp_explore.specs.Story.{told_of}
+use Rattle.tp_explore.specs.declared.told.Told.{Told}
+use Rattle.tp_run.specs.Played.{ending_by, ending_of_run, ending_told, has_pending, limits_for, long_script, printed, routines_of, told_in, with_faults, Ends, EndsRun, IsOfOne, IsOutputOf, IsPlayed, IsRunWith, RanOut}
 use Rattle.tp_report.specs.EarlyEnds.{has_early_end}
 use Rattle.tp_report.specs.declared.counts.EarlyEnd.TheVariants as early
 use Rattle.tp_report.specs.declared.playing.MachineSize.{MachineSize}
 use Rattle.tp_run.specs.Ends.{status_of_script, IsOutput, IsReply, IsScriptEnd}
-use Rattle.tp_run.specs.Inputs.{short_layout, whole_layout, IsPlayedOf}
-use Rattle.tp_run.specs.declared.command.Command.TheVariants.{Run, Big}
+use Rattle.tp_run.specs.Inputs.{short_layout, whole_layout, IsExploredOf, IsPlayedOf}
+use Rattle.tp_run.specs.declared.command.Command.TheVariants.{Explore, Run, Big}
 use Rattle.tp_run.specs.declared.played.Layout.{Layout}
 use Rattle.tp_run.specs.declared.status.Status.{Status}
 use Rattle.tp_run.specs.declared.status.Status.TheVariants as end
@@ -28,11 +31,13 @@ use Rattle.tp_run.specs.declared.status.Status.TheVariants.{BadLine}
 use Rattle.tp_run.specs.declared.replies.Output.{Output}
 use Rattle.script_lines.specs.declared.line.Line.{Line}
 use Rattle.tp_script.specs.Answers.{IsScriptFault, IsThat}
-use Rattle.tp_script.specs.Scripts.{IsScript}
+use Rattle.tp_script.specs.Parsed.{Parsed}
+use Rattle.tp_script.specs.Parts.{has_marks}
+use Rattle.tp_script.specs.Scripts.{IsParsed, IsScript}
 use Rattle.tp_script.specs.declared.fault.ScriptFault.{ScriptFault}
 use Rattle.tp_script.specs.declared.fault.ScriptFault.TheVariants.{NoMemory, At}
 use Rattle.tp_run.specs.declared.status.Ending.{Ending}
-use Rattle.tp_run.specs.declared.status.Ending.TheVariants.{Fine, NotLegal, Exhausted, Stalled}
+use Rattle.tp_run.specs.declared.status.Ending.TheVariants.{Fine, NotLegal, Exhausted, Stalled, Bad, GaveUp}
 use Rattle.tp_script.specs.Calls.{begins_wait_call}
 use Rattle.tp_script.specs.Machines.{NeverWaitsAtFirst}
 use Rattle.tp_script.specs.Nexts.{first_progress, next_call}
@@ -40,7 +45,7 @@ use Rattle.tp_script.specs.declared.routines.Part.TheVariants as part
 use Rattle.worker_gate.specs.Drawn.{IsDrawn}
 use Rattle.part_places.specs.Places.{Given}
 use Rattle.worker_gate.specs.Rounds.{begins_wait, NeverWaits}
-use Rattle.worker_gate.specs.Runs.{IsCutShort, Runs}
+use Rattle.worker_gate.specs.Runs.{IsCutShort}
 
 -- ---- how a run ends
 
@@ -73,36 +78,69 @@ never_waits script calm = λ answers. calm_call (next_call script (part.Client 1
 
 -- ---- a run that was played
 
-module _ (script : List Line) (threads : ℕ) (seed : Option ℕ) (layout : Layout) (output : List ℕ) (ending : Ending) where
-  pub run_played : (r : Recording) (limits : Limits) (capacity : ℕ) → r.limits ≡ limits → r.capacity ≡ capacity
-      → IsLegal r.limits r.capacity r.history → KeepsLaws r.limits r.history → Runs (routines_of script) r.limits r.capacity r.history
-      → (threads ≡ 1 → IsOfOne seed (routines_of script) limits capacity r.history) → IsNoneLost (totals_behind r)
-      → output ≡ printed layout r.limits r.capacity r.history → EndsRun (routines_of script) r.limits r.history ending
-      → IsPlayed script threads seed limits capacity layout output ending
-  run_played r limits capacity same_limits same_capacity legal laws runs alone none_lost text ends =
-      let g = routines_of script in
+-- a run of which nothing is told ends as it does, and another one is bad
+ends_told : (told : List Told) (g : Given) (limits : Limits) (history : List Entry) (ending : Ending) → EndsRun g limits history ending → Ends told g limits history (ending_told told ending)
+ends_told [] g limits history ending ends = ends
+ends_told (t ∷ rest) g limits history ending ends = refl
+
+module _ (text : List ℕ) (script : Parsed) (threads : ℕ) (seed : Option ℕ) (layout : Layout) (output : List ℕ) (ending : Ending) where
+  abbrev told : Limits → List Entry → List Told
+  told limits history = told_in layout.faults script limits history
+
+  pub run_played : (r : Recording) (cut : Bool) (limits : Limits) (capacity : ℕ) → IsRunWith script.lines threads seed limits capacity r cut
+      → IsLegal r.limits r.capacity r.history → KeepsLaws r.limits r.history → IsNoneLost (totals_behind r)
+      → output ≡ with_faults (printed layout r.limits r.capacity r.history) text (told r.limits r.history) → Ends (told r.limits r.history) (routines_of script.lines) r.limits r.history ending
+      → IsPlayed text script threads seed limits capacity layout output ending
+  run_played r cut limits capacity run legal laws none_lost written ends =
+      let g = routines_of script.lines in
       let alone_there : threads ≡ 1 → IsOfOne seed g r.limits r.capacity r.history =
-      λ one. subst (λ (e : ℕ). IsOfOne seed g r.limits e r.history) (sym same_capacity) (subst (λ (l : Limits). IsOfOne seed g l capacity r.history) (sym same_limits) (alone one)) in
-      let there : IsPlayed script threads seed r.limits r.capacity layout output ending =
+      λ one. subst (λ (e : ℕ). IsOfOne seed g r.limits e r.history) (sym run.capacity_is) (subst (λ (l : Limits). IsOfOne seed g l capacity r.history) (sym run.limits_are) (run.alone one)) in
+      let there : IsPlayed text script threads seed r.limits r.capacity layout output ending =
       record {
         history = r.history;
-        is_run = record { legal = legal; laws = laws; runs = runs; alone = alone_there; none_lost = none_lost };
-        output_is = text;
+        is_run = record { legal = legal; laws = laws; runs = run.runs; alone = alone_there; none_lost = none_lost };
+        output_is = written;
         ends = ends;
       } in
-      subst (λ (e : ℕ). IsPlayed script threads seed limits e layout output ending) same_capacity
-      (subst (λ (l : Limits). IsPlayed script threads seed l r.capacity layout output ending) same_limits there)
+      subst (λ (e : ℕ). IsPlayed text script threads seed limits e layout output ending) run.capacity_is
+      (subst (λ (l : Limits). IsPlayed text script threads seed l r.capacity layout output ending) run.limits_are there)
 
 -- what is made of a run that was played
-pub run_output : {E : Type 0} (script : List Line) (threads : ℕ) (seed : Option ℕ) (layout : Layout) (r : Recording) (cut : Bool) (limits : Limits) (capacity : ℕ) (result : Result Output E) → r.limits ≡ limits → r.capacity ≡ capacity
-    → Runs (routines_of script) r.limits r.capacity r.history → (threads ≡ 1 → IsOfOne seed (routines_of script) limits capacity r.history) → (cut ≡ true) ↔ IsCutShort (routines_of script) r.limits r.history
-    → IsLegal r.limits r.capacity r.history → KeepsLaws r.limits r.history → IfOk result (λ output. IsOutputOf layout cut r output)
-    → IfOk result (λ output. IsPlayed script threads seed limits capacity layout output.text.items output.ending)
-run_output script threads seed layout r cut limits capacity (Err none) same_limits same_capacity runs alone short legal laws told = told
-run_output script threads seed layout r cut limits capacity (Ok output) same_limits same_capacity runs alone short legal laws told =
-    let g = routines_of script in
-    let ends = subst (λ ending. EndsRun g r.limits r.history ending) (sym told.ending) (run_ends g r.limits r.history cut _ _ _ short refl refl refl) in
-    run_played script threads seed layout output.text.items output.ending r limits capacity same_limits same_capacity legal laws runs alone told.none_lost told.text ends
+pub run_output : {E : Type 0} (text : List ℕ) (script : Parsed) (threads : ℕ) (seed : Option ℕ) (layout : Layout) (said : List ℕ) (told : List Told) (r : Recording) (cut : Bool) (limits : Limits) (capacity : ℕ) (result : Result Output E)
+    → IsRunWith script.lines threads seed limits capacity r cut → ((written : List ℕ) → with_faults written said told ≡ with_faults written text (told_in layout.faults script r.limits r.history)) → told ≡ told_in layout.faults script r.limits r.history
+    → IsLegal r.limits r.capacity r.history → KeepsLaws r.limits r.history → IfOk result (λ output. IsOutputOf layout said told cut r output)
+    → IfOk result (λ output. IsPlayed text script threads seed limits capacity layout output.text.items output.ending)
+run_output text script threads seed layout said told r cut limits capacity (Err none) run same are legal laws made = made
+run_output text script threads seed layout said told r cut limits capacity (Ok output) run same are legal laws made =
+    let g = routines_of script.lines in
+    let ends : Ends told g r.limits r.history output.ending =
+    subst (λ ending. Ends told g r.limits r.history ending) (sym made.ending) (ends_told told g r.limits r.history (ending_of_run cut r) (run_ends g r.limits r.history cut _ _ _ run.cut_is refl refl refl)) in
+    run_played text script threads seed layout output.text.items output.ending r cut limits capacity run legal laws made.none_lost
+    (made.text_is ∙ same (printed layout r.limits r.capacity r.history))
+    (subst (λ ts. Ends ts g r.limits r.history output.ending) are ends)
+
+-- where the script has no marks nothing is told of its runs
+untold : (wanted : Bool) (script : Parsed) (limits : Limits) (history : List Entry) → has_marks script ≡ false → [] ≡ told_in wanted script limits history
+untold true script limits history none = ap (λ b. cond b (told_of (watched script) limits history) []) (sym none)
+untold false script limits history none = refl
+
+all_told : (script : Parsed) (limits : Limits) (history : List Entry) → has_marks script ≡ true → told_of (watched script) limits history ≡ told_in true script limits history
+all_told script limits history some = ap (λ b. cond b (told_of (watched script) limits history) []) (sym some)
+
+module _ {E : Type 0} (text : List ℕ) (script : Parsed) (threads : ℕ) (seed : Option ℕ) (json : Bool) (r : Recording) (cut : Bool) (limits : Limits) (capacity : ℕ) (result : Result Output E) where
+  pub told_played : has_marks script ≡ true → IsRunWith script.lines threads seed limits capacity r cut → IsLegal r.limits r.capacity r.history → KeepsLaws r.limits r.history
+      → IfOk result (λ output. IsOutputOf (whole_layout json) text (told_of (watched script) r.limits r.history) cut r output)
+      → IfOk result (λ output. IsPlayed text script threads seed limits capacity (whole_layout json) output.text.items output.ending)
+  told_played some run legal laws made =
+      let told = all_told script r.limits r.history some in
+      run_output text script threads seed (whole_layout json) text (told_of (watched script) r.limits r.history) r cut limits capacity result run (λ written. ap (λ ts. with_faults written text ts) told) told legal laws made
+
+  pub whole_played : has_marks script ≡ false → IsRunWith script.lines threads seed limits capacity r cut → IsLegal r.limits r.capacity r.history → KeepsLaws r.limits r.history
+      → IfOk result (λ output. IsOutputOf (whole_layout json) [] [] cut r output)
+      → IfOk result (λ output. IsPlayed text script threads seed limits capacity (whole_layout json) output.text.items output.ending)
+  whole_played none run legal laws made =
+      let told = untold true script r.limits r.history none in
+      run_output text script threads seed (whole_layout json) [] [] r cut limits capacity result run (λ written. ap (λ ts. with_faults written text ts) told) told legal laws made
 
 -- ---- one thread
 
@@ -117,7 +155,11 @@ one_ending g limits history Exhausted Stalled p q = absurd (q.0 p)
 one_ending g limits history Fine Stalled p q = absurd (false≢true (sym p.1 ∙ q.1))
 one_ending g limits history Stalled Fine p q = absurd (false≢true (sym q.1 ∙ p.1))
 one_ending g limits history NotLegal b p q = absurd p
+one_ending g limits history Bad b p q = absurd p
+one_ending g limits history GaveUp b p q = absurd p
 one_ending g limits history a NotLegal p q = absurd q
+one_ending g limits history a Bad p q = absurd q
+one_ending g limits history a GaveUp p q = absurd q
 
 -- a script has one history on one thread
 abbrev pub OneHistory : Option ℕ → Type 0
@@ -131,33 +173,38 @@ pub one_of : OneHistory None → OneDrawn → (seed : Option ℕ) → OneHistory
 one_of alone drawn None = alone
 one_of alone drawn (Some seed) = drawn seed
 
-one_played : (seed : Option ℕ) → OneHistory seed → (script : List Line) (threads : ℕ) → threads ≡ 1 → (limits : Limits) (capacity : ℕ) (layout : Layout) (output other : List ℕ) (ending other_end : Ending)
-    → IsPlayed script threads seed limits capacity layout output ending → IsPlayed script threads seed limits capacity layout other other_end → (output ≡ other) × (ending ≡ other_end)
-one_played seed one_history script threads one limits capacity layout output other ending other_end a b =
-    let g = routines_of script in
+one_end : (told : List Told) (g : Given) (limits : Limits) (history : List Entry) (a b : Ending) → Ends told g limits history a → Ends told g limits history b → a ≡ b
+one_end [] g limits history a b p q = one_ending g limits history a b p q
+one_end (t ∷ rest) g limits history a b p q = p ∙ sym q
+
+one_played : (seed : Option ℕ) → OneHistory seed → (text : List ℕ) (script : Parsed) (threads : ℕ) → threads ≡ 1 → (limits : Limits) (capacity : ℕ) (layout : Layout) (output other : List ℕ) (ending other_end : Ending)
+    → IsPlayed text script threads seed limits capacity layout output ending → IsPlayed text script threads seed limits capacity layout other other_end → (output ≡ other) × (ending ≡ other_end)
+one_played seed one_history text script threads one limits capacity layout output other ending other_end a b =
+    let g = routines_of script.lines in
+    let told : List Entry → List Told = λ h. told_in layout.faults script limits h in
     let same = one_history g limits capacity a.history b.history (a.is_run.alone one) (b.is_run.alone one) in (
-      a.output_is ∙ ap (λ h. printed layout limits capacity h) same ∙ sym b.output_is,
-      one_ending g limits b.history ending other_end (subst (λ h. EndsRun g limits h ending) same a.ends) b.ends,
+      a.output_is ∙ ap (λ h. with_faults (printed layout limits capacity h) text (told h)) same ∙ sym b.output_is,
+      one_end (told b.history) g limits b.history ending other_end (subst (λ h. Ends (told h) g limits h ending) same a.ends) b.ends,
     )
 
--- a text is one script
+-- a text is read as one script
 abbrev pub OneScript : Type 0
-OneScript = (text : List ℕ) (lines other : List Line) → IsScript text lines → IsScript text other → lines ≡ other
+OneScript = (text : List ℕ) (script other : Parsed) → IsParsed text script → IsParsed text other → script ≡ other
 
 one_played_of : (seed : Option ℕ) → OneHistory seed → OneScript → (text : List ℕ) (threads : ℕ) → threads ≡ 1
     → (machine : MachineSize) (layout : Layout) (output other : List ℕ) (ending other_end : Ending)
     → IsPlayedOf text threads seed machine layout output ending → IsPlayedOf text threads seed machine layout other other_end → (output ≡ other) × (ending ≡ other_end)
 one_played_of seed one_history one_script text threads one machine layout output other ending other_end a b =
     let same = one_script text a.0 b.0 a.1 b.1 in
-    one_played seed one_history b.0 threads one (limits_for b.0 machine) machine.events layout output other ending other_end
-    (subst (λ script. IsPlayed script threads seed (limits_for script machine) machine.events layout output ending) same a.2) b.2
+    one_played seed one_history text b.0 threads one (limits_for b.0.lines machine) machine.events layout output other ending other_end
+    (subst (λ (script : Parsed). IsPlayed text script threads seed (limits_for script.lines machine) machine.events layout output ending) same a.2) b.2
 
 -- ---- several threads
 
 -- of them it is said less than of one
-played_on_any : (script : List Line) (threads : ℕ) (seed : Option ℕ) (limits : Limits) (capacity : ℕ) (layout : Layout) (output : List ℕ) (ending : Ending)
-    → IsPlayed script 1 seed limits capacity layout output ending → IsPlayed script threads seed limits capacity layout output ending
-played_on_any script threads seed limits capacity layout output ending p = record {
+played_on_any : (text : List ℕ) (script : Parsed) (threads : ℕ) (seed : Option ℕ) (limits : Limits) (capacity : ℕ) (layout : Layout) (output : List ℕ) (ending : Ending)
+    → IsPlayed text script 1 seed limits capacity layout output ending → IsPlayed text script threads seed limits capacity layout output ending
+played_on_any text script threads seed limits capacity layout output ending p = record {
   history = p.history;
   is_run = record { legal = p.is_run.legal; laws = p.is_run.laws; runs = p.is_run.runs; alone = λ _. p.is_run.alone refl; none_lost = p.is_run.none_lost };
   output_is = p.output_is;
@@ -167,7 +214,7 @@ played_on_any script threads seed limits capacity layout output ending p = recor
 all_played_on_any : (text : List ℕ) (threads : ℕ) (seed : Option ℕ) (machine : MachineSize) (layout : Layout) (output : List ℕ) (ending : Ending)
     → IsPlayedOf text 1 seed machine layout output ending → IsPlayedOf text threads seed machine layout output ending
 all_played_on_any text threads seed machine layout output ending p =
-    (p.0, p.1, played_on_any p.0 threads seed (limits_for p.0 machine) machine.events layout output ending p.2)
+    (p.0, p.1, played_on_any text p.0 threads seed (limits_for p.0.lines machine) machine.events layout output ending p.2)
 
 -- ---- what becomes of a text that is to be played
 
@@ -184,6 +231,21 @@ unplayed_reply : (bytes : List ℕ) (threads : ℕ) (seed : Option ℕ) (machine
 unplayed_reply bytes threads seed machine json (BadLine line column) e = record { at = e.0; none = λ h. e.1 h.0 h.1 }
 unplayed_reply bytes threads seed machine json end.NoMemory e = tt
 unplayed_reply bytes threads seed machine json _ e = absurd e
+
+-- gone through in all orders, of which there may be other outputs
+pub explore_reply : (bytes : List ℕ) (workers states : ℕ) (output : Output) → IsExploredOf bytes workers states output.text.items output.ending → IsReply (Explore workers states) bytes (Ok output)
+explore_reply bytes workers states output explored = record { gives = explored; only = λ determined other other_end g. absurd determined }
+
+unexplored : (bytes : List ℕ) (workers states : ℕ) (status : Status) → IsScriptEnd bytes status → IsReply (Explore workers states) bytes (Err status)
+unexplored bytes workers states (BadLine line column) e = record { at = e.0; none = λ h. e.1 h.0 h.1 }
+unexplored bytes workers states end.NoMemory e = tt
+unexplored bytes workers states _ e = absurd e
+
+pub explore_unread : (bytes : List ℕ) (workers states : ℕ) (reply : Result Output Status) (fault : ScriptFault)
+    → IsErrAnd reply (λ status. status ≡ status_of_script fault) → IsScriptFault bytes fault → ((lines : List Line) → IsScript bytes lines → IsThat lines (Err fault))
+    → IsReply (Explore workers states) bytes reply
+explore_unread bytes workers states (Ok output) fault h place only = absurd h
+explore_unread bytes workers states (Err status) fault h place only = unexplored bytes workers states status (script_end bytes fault (Err status) h place only)
 
 -- played on several, of which there may be other outputs
 pub several_output : (bytes : List ℕ) (threads : ℕ) (seed : Option ℕ) (machine : MachineSize) (json : Bool) (output : Output) → 1 < threads

@@ -1,7 +1,7 @@
 -- The exit status of the program.
 use Rattle.std.specs.Prelude.{ℕ}
 use Rattle.tp_run.specs.declared.status.Status.{Status}
-use Rattle.tp_run.specs.declared.status.Status.TheVariants.{Fine, Words, BadLine, ReadFault, WriteFault, NoMemory, TooLong, NotLegal, Exhausted, Stalled}
+use Rattle.tp_run.specs.declared.status.Status.TheVariants.{Fine, Words, BadLine, ReadFault, WriteFault, NoMemory, TooLong, NotLegal, Exhausted, Stalled, Bad, GaveUp}
 
 abbrev pub code_of : Status → ℕ
 code_of Fine = 0
@@ -14,3 +14,5 @@ code_of TooLong = 6
 code_of NotLegal = 7
 code_of Exhausted = 8
 code_of Stalled = 9
+code_of Bad = 10
+code_of GaveUp = 11

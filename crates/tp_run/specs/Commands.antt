@@ -5,7 +5,7 @@ use Rattle.tp_report.specs.declared.headers.TheConstants.{EVENT_LIMIT}
 use Rattle.tp_report.specs.declared.playing.MachineSize.{MachineSize}
 use Rattle.tp_run.specs.Numbers.{number_in}
 use Rattle.tp_run.specs.declared.command.Command.{Command}
-use Rattle.tp_run.specs.declared.command.Command.TheVariants.{Trace, History, Libraries, Legacy, Windows, Check, Migrate, Port, Gen, Run, Big}
+use Rattle.tp_run.specs.declared.command.Command.TheVariants.{Trace, History, Libraries, Legacy, Windows, Check, Migrate, Port, Gen, Run, Explore, Big}
 use Rattle.tp_run.specs.declared.command.Name.{Name}
 use Rattle.tp_run.specs.declared.command.Name.TheVariants as name
 use Rattle.tp_words.specs.Said.{said, Said}
@@ -23,6 +23,7 @@ name_in word =
     else if bytes_eq word (codes "port") then Some name.Port
     else if bytes_eq word (codes "gen") then Some name.Gen
     else if bytes_eq word (codes "run") then Some name.Run
+    else if bytes_eq word (codes "explore") then Some name.Explore
     else if bytes_eq word (codes "big") then Some name.Big
     else None
 
@@ -56,20 +57,21 @@ without_number (Some text) command = None
 abbrev pub with_number : Option (List ℕ) → (ℕ → Command) → Option Command
 with_number text command = option_map command (option_and_then number_in text)
 
--- the command of a name, with so many threads, the seed if there is one, a machine of this size, whether JSON was asked for, and
--- the text behind the name
-abbrev pub command_named : Name → ℕ → Option ℕ → MachineSize → Bool → Option (List ℕ) → Option Command
-command_named name.Trace threads seed machine json number = without_number number (Trace machine)
-command_named name.History threads seed machine json number = without_number number (History machine)
-command_named name.Libraries threads seed machine json number = without_number number (Libraries machine)
-command_named name.Legacy threads seed machine json number = without_number number (Legacy machine)
-command_named name.Windows threads seed machine json number = without_number number (Windows machine)
-command_named name.Check threads seed machine json number = without_number number Check
-command_named name.Migrate threads seed machine json number = without_number number Migrate
-command_named name.Port threads seed machine json number = without_number number Port
-command_named name.Gen threads seed machine json number = with_number number (λ n. Gen n)
-command_named name.Run threads seed machine json number = without_number number (Run threads seed machine json)
-command_named name.Big threads seed machine json number = with_number number (λ n. Big n machine json)
+-- the command of a name, with so many threads, the seed if there is one, a machine of this size, so many states, whether JSON was
+-- asked for, and the text behind the name
+abbrev pub command_named : Name → ℕ → Option ℕ → MachineSize → ℕ → Bool → Option (List ℕ) → Option Command
+command_named name.Trace threads seed machine states json number = without_number number (Trace machine)
+command_named name.History threads seed machine states json number = without_number number (History machine)
+command_named name.Libraries threads seed machine states json number = without_number number (Libraries machine)
+command_named name.Legacy threads seed machine states json number = without_number number (Legacy machine)
+command_named name.Windows threads seed machine states json number = without_number number (Windows machine)
+command_named name.Check threads seed machine states json number = without_number number Check
+command_named name.Migrate threads seed machine states json number = without_number number Migrate
+command_named name.Port threads seed machine states json number = without_number number Port
+command_named name.Gen threads seed machine states json number = with_number number (λ n. Gen n)
+command_named name.Run threads seed machine states json number = without_number number (Run threads seed machine json)
+command_named name.Explore threads seed machine states json number = without_number number (Explore machine.workers states)
+command_named name.Big threads seed machine states json number = with_number number (λ n. Big n machine json)
 
 -- each value is in its range, and no seed is for nothing
 abbrev pub command_said : Said → Option Command
@@ -77,10 +79,12 @@ command_said said =
     option_and_then (λ threads.
     option_and_then (λ workers.
     option_and_then (λ events.
+    option_and_then (λ states.
     option_and_then (λ seed.
-    option_and_then (λ name. if is_seed_for_nothing name threads seed then None else command_named name threads seed (record { workers = workers; events = events }) said.json said.number)
+    option_and_then (λ name. if is_seed_for_nothing name threads seed then None else command_named name threads seed (record { workers = workers; events = events }) states said.json said.number)
     (option_and_then name_in said.command))
     (seed_in said.seed))
+    (bounded 1 16777216 1000000 said.states))
     (bounded 16 EVENT_LIMIT 65536 said.events))
     (bounded 1 64 4 said.workers))
     (bounded 1 16 1 said.threads)

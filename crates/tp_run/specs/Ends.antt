@@ -15,7 +15,7 @@ use Rattle.tp_run.specs.declared.command.Command.{Command}
 use Rattle.tp_run.specs.declared.status.Ending.{Ending}
 use Rattle.tp_run.specs.declared.status.Ending.TheVariants as ending
 use Rattle.tp_run.specs.declared.status.Status.{Status}
-use Rattle.tp_run.specs.declared.status.Status.TheVariants.{Fine, Words, BadLine, ReadFault, WriteFault, NoMemory, TooLong, NotLegal, Exhausted, Stalled}
+use Rattle.tp_run.specs.declared.status.Status.TheVariants.{Fine, Words, BadLine, ReadFault, WriteFault, NoMemory, TooLong, NotLegal, Exhausted, Stalled, Bad, GaveUp}
 use Rattle.tp_run.specs.declared.replies.Output.{Output}
 use Rattle.script_lines.specs.declared.line.Line.{Line}
 use Rattle.tp_script.specs.Scripts.{IsScript}
@@ -34,6 +34,8 @@ status_of ending.Fine = Fine
 status_of ending.NotLegal = NotLegal
 status_of ending.Exhausted = Exhausted
 status_of ending.Stalled = Stalled
+status_of ending.Bad = Bad
+status_of ending.GaveUp = GaveUp
 
 -- the end that a fault of the input leads to
 abbrev pub status_of_text : TextFault → Status
@@ -103,6 +105,8 @@ Came command taken now held holds Fine = IsAllRead command taken now × ((output
 Came command taken now held holds NotLegal = IsAllRead command taken now × ((output : List ℕ) × IsOutput command taken output ending.NotLegal × (holds ≡ with_given output held))
 Came command taken now held holds Exhausted = IsAllRead command taken now × ((output : List ℕ) × IsOutput command taken output ending.Exhausted × (holds ≡ with_given output held))
 Came command taken now held holds Stalled = IsAllRead command taken now × ((output : List ℕ) × IsOutput command taken output ending.Stalled × (holds ≡ with_given output held))
+Came command taken now held holds Bad = IsAllRead command taken now × ((output : List ℕ) × IsOutput command taken output ending.Bad × (holds ≡ with_given output held))
+Came command taken now held holds GaveUp = IsAllRead command taken now × ((output : List ℕ) × IsOutput command taken output ending.GaveUp × (holds ≡ with_given output held))
 Came command taken now held holds WriteFault = IsAllRead command taken now × ((output : List ℕ) × (ends : Ending) × IsOutput command taken output ends × TookFirst held holds output)
 Came command taken now held holds (BadLine line column) = IsAllRead command taken now × IsFaulty command taken line column
 Came command taken now held holds Words = ⊥

@@ -1,6 +1,7 @@
 pub mod Codes
 pub mod Commands
 pub mod Ends
+pub mod Explored
 pub mod Inputs
 pub mod Numbers
 pub mod Played

@@ -1,5 +1,5 @@
 -- What the runs of a script are, and what is made of one.
-use Rattle.std.specs.Prelude.{◌≡◌, ℕ, Bool, true, false, List, [], ◌++◌, ◌⊎◌, Option, None, Some}
+use Rattle.std.specs.Prelude.{◌≡◌, ◌↔◌, ◌&&◌, ℕ, Bool, true, false, List, [], ◌∷◌, ◌++◌, ◌⊎◌, if◌then◌else◌, Option, None, Some}
 use Rattle.std.specs.List.{list_any}
 use Rattle.recorded.specs.ProgramLimits.{program_limits}
 use Rattle.recorded.specs.Recordings.{Recording}
@@ -21,9 +21,15 @@ use Rattle.tp_report.specs.declared.playing.MachineSize.{MachineSize}
 use Rattle.tp_run.specs.declared.played.Layout.{Layout}
 use Rattle.tp_run.specs.declared.replies.Output.{Output}
 use Rattle.tp_run.specs.declared.status.Ending.{Ending}
-use Rattle.tp_run.specs.declared.status.Ending.TheVariants.{Fine, NotLegal, Exhausted, Stalled}
+use Rattle.tp_run.specs.declared.status.Ending.TheVariants.{Fine, NotLegal, Exhausted, Stalled, Bad, GaveUp}
+use Rattle.order_lines.specs.Explored.{faults_text}
 use Rattle.script_lines.specs.declared.line.Line.{Line}
+use Rattle.tp_explore.specs.Scripts.{watched}
+use Rattle.tp_explore.specs.Story.{told_of}
+use Rattle.tp_explore.specs.declared.told.Told.{Told}
 use Rattle.tp_script.specs.Nexts.{clients_of, next_at, progress_after}
+use Rattle.tp_script.specs.Parsed.{Parsed}
+use Rattle.tp_script.specs.Parts.{has_marks}
 use Rattle.worker_gate.specs.Alone.{IsAlone}
 use Rattle.worker_gate.specs.Drawn.{IsDrawn}
 use Rattle.part_places.specs.Places.{given, Given}
@@ -80,6 +86,8 @@ EndsRun g limits history Fine = (RanOut g limits history → ⊥) × (has_early_
 EndsRun g limits history Exhausted = RanOut g limits history
 EndsRun g limits history Stalled = (RanOut g limits history → ⊥) × (has_early_end early.Stalled history ≡ true)
 EndsRun g limits history NotLegal = ⊥
+EndsRun g limits history Bad = ⊥
+EndsRun g limits history GaveUp = ⊥
 
 abbrev pub ending_by : Bool → Bool → Bool → Bool → Ending
 ending_by true exhausted pending stalled = Exhausted
@@ -106,15 +114,42 @@ totals_text false limits history = summary_text limits history
 abbrev pub printed : Layout → Limits → ℕ → List Entry → List ℕ
 printed layout limits capacity history = history_if layout.history limits capacity history ++ totals_text layout.json limits history
 
--- the script was played on a machine of these limits, and this was written of the run, and its ending
-pub record IsPlayed (script : List Line) (threads : ℕ) (seed : Option ℕ) (limits : Limits) (capacity : ℕ) (layout : Layout) (output : List ℕ) (ending : Ending) : Type 0 where
-  pub history : List Entry
-  pub is_run : IsRunOf script threads seed limits capacity history
-  pub output_is : output ≡ printed layout limits capacity history
-  pub ends : EndsRun (routines_of script) limits history ending
+-- what is written, and behind it a line for each fault
+abbrev pub with_faults : List ℕ → List ℕ → List Told → List ℕ
+with_faults written text [] = written
+with_faults written text (told ∷ rest) = written ++ faults_text text (told ∷ rest)
 
--- of a recording, where a role was cut or none was: the text and the ending, and no callback is lost
-pub record IsOutputOf (layout : Layout) (cut : Bool) (r : Recording) (output : Output) : Type 0 where
-  pub text : output.text.items ≡ printed layout r.limits r.capacity r.history
+-- the faults that are told of a run: where they are wanted, and the script has marks
+abbrev pub told_in : Bool → Parsed → Limits → List Entry → List Told
+told_in wanted script limits history = if wanted && has_marks script then told_of (watched script) limits history else []
+
+-- a run with faults ends as bad, and another one as it does
+abbrev pub Ends : List Told → Given → Limits → List Entry → Ending → Type 0
+Ends [] g limits history ending = EndsRun g limits history ending
+Ends (told ∷ rest) g limits history ending = ending ≡ Bad
+
+-- the script of a text was played on a machine of these limits, and this was written of the run, and its ending
+pub record IsPlayed (text : List ℕ) (script : Parsed) (threads : ℕ) (seed : Option ℕ) (limits : Limits) (capacity : ℕ) (layout : Layout) (output : List ℕ) (ending : Ending) : Type 0 where
+  pub history : List Entry
+  pub is_run : IsRunOf script.lines threads seed limits capacity history
+  pub output_is : output ≡ with_faults (printed layout limits capacity history) text (told_in layout.faults script limits history)
+  pub ends : Ends (told_in layout.faults script limits history) (routines_of script.lines) limits history ending
+
+-- what one thread or several made of a script: the machine, with its history, and whether a role was cut
+pub record IsRunWith (script : List Line) (threads : ℕ) (seed : Option ℕ) (limits : Limits) (capacity : ℕ) (r : Recording) (cut : Bool) : Type 0 where
+  pub limits_are : r.limits ≡ limits
+  pub capacity_is : r.capacity ≡ capacity
+  pub runs : Runs (routines_of script) r.limits r.capacity r.history
+  pub alone : threads ≡ 1 → IsOfOne seed (routines_of script) limits capacity r.history
+  pub cut_is : (cut ≡ true) ↔ IsCutShort (routines_of script) r.limits r.history
+
+-- of a recording, where these faults are told of the script of a text, and a role was cut or none was: what is written and the
+-- ending, and no callback is lost
+abbrev pub ending_told : List Told → Ending → Ending
+ending_told [] ending = ending
+ending_told (told ∷ rest) ending = Bad
+
+pub record IsOutputOf (layout : Layout) (text : List ℕ) (told : List Told) (cut : Bool) (r : Recording) (output : Output) : Type 0 where
+  pub text_is : output.text.items ≡ with_faults (printed layout r.limits r.capacity r.history) text told
   pub none_lost : IsNoneLost (totals_of r.limits r.history)
-  pub ending : output.ending ≡ ending_of_run cut r
+  pub ending : output.ending ≡ ending_told told (ending_of_run cut r)

@@ -37,5 +37,5 @@ pub record IsPorted (devices : List (List Operation)) (output : List ℕ) (endin
   pub each : IsInterleaving (numbered devices) posted
   pub legal : IsLegal (limits_of devices) 65536 (history_of devices posted)
   pub laws : KeepsLaws (limits_of devices) (history_of devices posted)
-  pub output_is : output ≡ printed (record { history = true; json = false }) (limits_of devices) 65536 (history_of devices posted)
+  pub output_is : output ≡ printed (record { history = true; json = false; faults = false }) (limits_of devices) 65536 (history_of devices posted)
   pub ends : ending ≡ Fine

@@ -4,7 +4,7 @@ use Rattle.tp_run.specs.Inputs.{Gives, IsFaultyAt, IsInput, reads}
 use Rattle.tp_run.specs.declared.top.TheConstants.{INPUT_LIMIT}
 use Rattle.tp_run.specs.declared.command.Command.{Command}
 use Rattle.tp_run.specs.declared.status.Status.{Status}
-use Rattle.tp_run.specs.declared.status.Status.TheVariants.{Fine, BadLine, WriteFault, TooLong, NotLegal, Exhausted, Stalled}
+use Rattle.tp_run.specs.declared.status.Status.TheVariants.{Fine, BadLine, WriteFault, TooLong, NotLegal, Exhausted, Stalled, Bad, GaveUp}
 use Rattle.tp_run.specs.declared.status.Ending.{Ending}
 
 -- all was written
@@ -13,6 +13,8 @@ IsWhole Fine = Unit {0}
 IsWhole NotLegal = Unit {0}
 IsWhole Exhausted = Unit {0}
 IsWhole Stalled = Unit {0}
+IsWhole Bad = Unit {0}
+IsWhole GaveUp = Unit {0}
 IsWhole _ = ⊥
 
 -- nothing is written at any end but these
@@ -21,6 +23,8 @@ IsUnwritten Fine = ⊥
 IsUnwritten NotLegal = ⊥
 IsUnwritten Exhausted = ⊥
 IsUnwritten Stalled = ⊥
+IsUnwritten Bad = ⊥
+IsUnwritten GaveUp = ⊥
 IsUnwritten WriteFault = ⊥
 IsUnwritten _ = Unit {0}
 
@@ -30,6 +34,8 @@ IsBehindInput Fine = Unit {0}
 IsBehindInput NotLegal = Unit {0}
 IsBehindInput Exhausted = Unit {0}
 IsBehindInput Stalled = Unit {0}
+IsBehindInput Bad = Unit {0}
+IsBehindInput GaveUp = Unit {0}
 IsBehindInput WriteFault = Unit {0}
 IsBehindInput (BadLine line column) = Unit {0}
 IsBehindInput _ = ⊥

@@ -55,6 +55,12 @@ pub enum Command {
         machine: MachineSize,
         json: bool,
     },
+    /// Goes through every order of the script that is the input, with so many workers, from 1 to 64, and writes a shortest
+    /// bad one, or that none is. It meets no more states than this, from 1 to 16,777,216.
+    Explore {
+        workers: u32,
+        states: u32,
+    },
     /// Reads nothing, plays the long script of a number on one thread, on a machine of this size, and
     /// writes the summary of its history, which is JSON if that is wanted.
     Big {
@@ -78,7 +84,7 @@ pub struct Several {
 impl Command {
     ghost use Rattle.std.specs.Prelude.{◌≡◌, ◌<◌, ◌⊎◌, None, Some, IfSome};
     ghost use Rattle.tp_report.specs.Traces.{IsMachineSize};
-    ghost use Rattle.tp_run.specs.Inputs.{reads, IsDetermined, IsPlayable};
+    ghost use Rattle.tp_run.specs.Inputs.{reads, IsDetermined, IsExplore, IsPlayable};
     ghost use Rattle.tp_run.specs.declared.command.Command.TheVariants.{Port, Run};
 
     /// The run on several threads that the command is, if it is one.
@@ -87,7 +93,7 @@ impl Command {
         ensures run { IfSome result (λ several. self ≡ Run several.threads None several.machine several.json) }
         ensures threads { IfSome result (λ several. 1 < several.threads) }
         ensures size { IfSome result (λ several. IsMachineSize several.machine) }
-        ensures none { result ≡ None → IsDetermined (Some self) ⊎ (self ≡ Port) }
+        ensures none { result ≡ None → IsDetermined (Some self) ⊎ (self ≡ Port) ⊎ IsExplore self }
     {
         match self {
             Command::Run {
@@ -117,7 +123,8 @@ impl Command {
             | Command::Check
             | Command::Migrate
             | Command::Port
-            | Command::Run { .. } => true,
+            | Command::Run { .. }
+            | Command::Explore { .. } => true,
             Command::Gen { .. } | Command::Big { .. } => false,
         }
     }
@@ -136,6 +143,7 @@ pub enum Name {
     Port,
     Gen,
     Run,
+    Explore,
     Big,
 }
 
@@ -161,6 +169,7 @@ fn command_said(texts: &Texts) -> Option<Command>
     let threads = bounded(texts.threads, 1, 16, 1)?;
     let workers = bounded(texts.workers, 1, 64, 4)?;
     let events = bounded(texts.events, 16, EVENT_LIMIT, 65_536)?;
+    let states = bounded(texts.states, 1, 16_777_216, 1_000_000)?;
     let seed = seed_in(texts.seed)?;
     let machine = MachineSize { workers, events };
     let json = texts.json;
@@ -190,6 +199,7 @@ fn command_said(texts: &Texts) -> Option<Command>
                 json,
             },
         ),
+        Name::Explore => without_number(texts.number, Command::Explore { workers, states }),
         Name::Big => {
             let number = number(texts.number?.as_bytes())?;
             Some(Command::Big {
@@ -225,6 +235,8 @@ fn name_in(word: &str) -> Option<Name>
         Name::Gen
     } else if word == "run" {
         Name::Run
+    } else if word == "explore" {
+        Name::Explore
     } else if word == "big" {
         Name::Big
     } else {

@@ -5,26 +5,32 @@ ghost use Rattle.tp_run.specs.Ends.{IsReply, IsScriptEnd};
 ghost use Rattle.tp_report.specs.Traces.{IsMachineSize};
 ghost use Rattle.tp_report.specs.Verdicts.{verdict_text};
 ghost use Rattle.tp_run.specs.Inputs.{ending_of, short_layout, whole_layout, IsPlayable, IsPlayedOf};
-ghost use Rattle.tp_run.specs.Played.{long_script};
-ghost use Rattle.tp_run.specs.declared.command.Command.TheVariants.{Migrate, Port, Run};
+ghost use Rattle.tp_run.specs.Explored.{IsExplored};
+ghost use Rattle.tp_run.specs.Played.{limits_for, long_script, IsPlayed};
+ghost use Rattle.tp_run.specs.declared.command.Command.TheVariants.{Explore, Migrate, Port, Run};
+ghost use Rattle.tp_script.specs.Machines.{HasFewClients, NeverWaitsAtFirst};
 
 use crate::command::{Command, Several};
-use crate::played::{play_script, play_script_alone, play_script_drawn, play_unwritten};
+use crate::played::{play_unwritten, run_alone, run_on_threads, told_output, whole_output};
 use crate::ported::{play_port, play_port_alone};
 use crate::status::{Ending, Status};
 use crate::top::INPUT_LIMIT;
+use kept_book::Kept;
+use order_lines::{Explored, explore_script};
+use plain_worlds::PlainWorld;
 use port_lines::read_devices;
-use recorded::Recorded;
+use recorded::{Recorded, program_limits};
 use script_generator::{generate, generated_is_script};
 use std::alloc::{AllocError, Global};
 use std::sync::Wait;
 use std::thread::Threads;
 use tp_coalesce::play_windows;
+use tp_explore::Moving;
 use tp_legacy::play_legacy;
 use tp_library::play_libraries;
 use tp_port::PortGate;
 use tp_report::{MachineSize, Verdict, check, history, migrate, print_verdict, trace};
-use tp_script::{ScriptFault, one_script_a_text, parse_script};
+use tp_script::{Script, ScriptFault, one_reading_a_text, parse_script};
 use worker_gate::{Gate, one_history_alone, one_history_drawn};
 
 /// How many lines each drawn client has in the script that is written for a number.
@@ -118,8 +124,11 @@ pub fn reply<B: Recorded, G: Gate>(
         } => {
             one_history_alone();
             one_history_drawn();
-            one_script_a_text();
+            one_reading_a_text();
             play_turns::<B, G>(alloc, bytes, seed, machine, json, gate)
+        }
+        Command::Explore { workers, states } => {
+            explore_text::<B, PlainWorld>(alloc, bytes, workers, states)
         }
         Command::Big {
             number,
@@ -127,7 +136,7 @@ pub fn reply<B: Recorded, G: Gate>(
             json,
         } => {
             one_history_alone();
-            one_script_a_text();
+            one_reading_a_text();
             let output = play_number::<B, G>(alloc, number, machine, json, gate)?;
             Ok(output)
         }
@@ -185,6 +194,45 @@ fn output_of(alloc: Global, verdict: &Verdict) -> Result<Output, AllocError>
     })
 }
 
+// What `explore` writes of the orders of the script that is its input.
+fn explore_text<B: Recorded, V: Moving>(
+    alloc: Global,
+    bytes: &[u8],
+    workers: u32,
+    states: u32,
+) -> Result<Output, Status>
+    requires few { length bytes.now ≤ INPUT_LIMIT }
+    requires workers_least { 1 ≤ workers }
+    requires workers_most { workers ≤ 64 }
+    requires states { 1 ≤ states }
+    ensures { IsReply (Explore workers states) bytes.now result }
+{
+    let script = parse_script(alloc, bytes)?;
+    let output = explored::<B, V>(alloc, &script, bytes, workers, states)?;
+    Ok(output)
+}
+
+// The same of a script that was read from these bytes.
+fn explored<B: Recorded, V: Moving>(
+    alloc: Global,
+    script: &Script,
+    bytes: &[u8],
+    workers: u32,
+    states: u32,
+) -> Result<Output, AllocError>
+    requires few { length bytes.now ≤ INPUT_LIMIT }
+    requires clients { HasFewClients script.now.lines }
+    requires workers_least { 1 ≤ workers }
+    requires workers_most { workers ≤ 64 }
+    requires states { 1 ≤ states }
+    ensures { IfOk result (λ output. IsExplored bytes.now script.now workers states output.text.items output.ending) }
+{
+    let limits = program_limits(script.clients(), workers);
+    let Explored { text, found } = explore_script::<B, V>(alloc, script, bytes, limits, states)?;
+    let ending = found.into();
+    Ok(Output { text, ending })
+}
+
 // What `run` writes of the script that is its input, played on this thread. The turns are drawn if there
 // is a seed.
 fn play_turns<B: Recorded, G: Gate>(
@@ -201,11 +249,33 @@ fn play_turns<B: Recorded, G: Gate>(
     ensures err { IfErr result (IsScriptEnd bytes.now) }
 {
     let script = parse_script(alloc, bytes)?;
-    let output = match seed {
-        Some(seed) => play_script_drawn::<B, G>(alloc, &script, seed, machine, json, gate)?,
-        None => play_script_alone::<B, G>(alloc, &script, machine, json, gate)?,
-    };
+    let output = play_script_alone::<B, G>(alloc, &script, bytes, seed, machine, json, gate)?;
     Ok(output)
+}
+
+// The same of a script that was read from these bytes. Where it has marks, the faults of the run are told.
+fn play_script_alone<B: Recorded, G: Gate>(
+    alloc: Global,
+    script: &Script,
+    bytes: &[u8],
+    seed: Option<u64>,
+    machine: MachineSize,
+    json: bool,
+    gate: &G,
+) -> Result<Output, AllocError>
+    requires few { length bytes.now ≤ INPUT_LIMIT }
+    requires clients { HasFewClients script.now.lines }
+    requires calm { NeverWaitsAtFirst script.now.lines }
+    requires size { IsMachineSize machine }
+    ensures { IfOk result (λ output. IsPlayed bytes.now script.now 1 seed (limits_for script.now.lines machine) machine.events (whole_layout json) output.text.items output.ending) }
+{
+    if script.has_marks() {
+        let played = run_alone::<Kept<B>, G>(alloc, script, seed, machine, gate)?;
+        told_output::<B, PlainWorld>(alloc, script, bytes, json, played)
+    } else {
+        let played = run_alone::<B, G>(alloc, script, seed, machine, gate)?;
+        whole_output(alloc, json, played)
+    }
 }
 
 // What `big` writes of the long script of a number.
@@ -265,11 +335,36 @@ fn reply_on_several<Rt: Threads + Wait + Sync, B: Recorded + Send, G: Gate + Syn
     ensures { IsReply (Run several.threads None several.machine several.json) bytes.now result }
 {
     let script = parse_script(alloc, bytes)?;
+    let output = play_script::<Rt, B, G>(rt, alloc, &script, bytes, several, gate)?;
+    Ok(output)
+}
+
+// The same of a script that was read from these bytes. Where it has marks, the faults of the run are told.
+fn play_script<Rt: Threads + Wait + Sync, B: Recorded + Send, G: Gate + Sync>(
+    rt: &Rt,
+    alloc: Global,
+    script: &Script,
+    bytes: &[u8],
+    several: Several,
+    gate: &G,
+) -> Result<Output, AllocError>
+    requires few { length bytes.now ≤ INPUT_LIMIT }
+    requires clients { HasFewClients script.now.lines }
+    requires calm { NeverWaitsAtFirst script.now.lines }
+    requires threads { 1 < several.threads }
+    requires size { IsMachineSize several.machine }
+    ensures { IfOk result (λ output. IsPlayed bytes.now script.now several.threads None (limits_for script.now.lines several.machine) several.machine.events (whole_layout several.json) output.text.items output.ending) }
+{
     let Several {
         threads,
         machine,
         json,
     } = several;
-    let output = play_script::<Rt, B, G>(rt, alloc, &script, threads, machine, json, gate)?;
-    Ok(output)
+    if script.has_marks() {
+        let played = run_on_threads::<Rt, Kept<B>, G>(rt, alloc, script, threads, machine, gate)?;
+        told_output::<B, PlainWorld>(alloc, script, bytes, json, played)
+    } else {
+        let played = run_on_threads::<Rt, B, G>(rt, alloc, script, threads, machine, gate)?;
+        whole_output(alloc, json, played)
+    }
 }

@@ -2,6 +2,7 @@
 
 ghost use Rattle.std.specs.Prelude.{◌≡◌};
 
+use order_lines::Found;
 use port_lines::PortFault;
 use std::alloc::AllocError;
 use tp_edge::ReadFault;
@@ -19,6 +20,10 @@ pub enum Ending {
     Exhausted,
     /// It is a script in whose run no actor could go on.
     Stalled,
+    /// It is a script of which an order has a fault.
+    Bad,
+    /// It is a script with more orders than were gone through.
+    GaveUp,
 }
 
 impl From<&Verdict> for Ending {
@@ -30,6 +35,20 @@ impl From<&Verdict> for Ending {
         match verdict {
             Verdict::Legal { .. } => Ending::Fine,
             Verdict::NotLegal { .. } | Verdict::WrongMoment { .. } => Ending::NotLegal,
+        }
+    }
+}
+
+impl From<Found> for Ending {
+    ghost use Rattle.tp_run.specs.Explored.{ending_found};
+
+    ghost from_gives = { λ found ending. ending ≡ ending_found found };
+
+    fn from(found: Found) -> Self {
+        match found {
+            Found::None => Ending::Fine,
+            Found::Bad => Ending::Bad,
+            Found::GaveUp => Ending::GaveUp,
         }
     }
 }
@@ -59,6 +78,10 @@ pub enum Status {
     Exhausted,
     /// A wait of the run ended with `stalled`, and the history had room for all. The output is whole.
     Stalled,
+    /// An order of the script has a fault. The output is whole.
+    Bad,
+    /// Of the script's orders those up to a length were gone through, and none of these has a fault. The output is whole.
+    GaveUp,
 }
 
 impl Status {
@@ -79,6 +102,8 @@ impl Status {
             Status::NotLegal => 7,
             Status::Exhausted => 8,
             Status::Stalled => 9,
+            Status::Bad => 10,
+            Status::GaveUp => 11,
         }
     }
 }
@@ -94,6 +119,8 @@ impl From<Ending> for Status {
             Ending::NotLegal => Status::NotLegal,
             Ending::Exhausted => Status::Exhausted,
             Ending::Stalled => Status::Stalled,
+            Ending::Bad => Status::Bad,
+            Ending::GaveUp => Status::GaveUp,
         }
     }
 }

@@ -31,7 +31,7 @@ pub const INPUT_LIMIT: usize = 25_165_824;
 ///
 /// `words` are those behind the program's name. The answer is the first of these that applies:
 /// `NoMemory` of the words; `Words`; `ReadFault` and `TooLong`, at which reading ends; `NoMemory` of reading; `BadLine`;
-/// `NoMemory`; `WriteFault`; `NotLegal` and `Exhausted`; `Stalled`; `Fine`. All memory is taken before
+/// `NoMemory`; `WriteFault`; `NotLegal`, `Exhausted`, `Bad` and `GaveUp`; `Stalled`; `Fine`. All memory is taken before
 /// anything is written.
 ///
 /// `run` and `big` play with all clients and workers at the gate. A wait of theirs that nobody can end is

@@ -1,5 +1,5 @@
 -- What a script says of its parts.
-use Rattle.std.specs.Prelude.{ℕ, ◌+◌, Bool, false, List, [], ◌∷◌, Option, Some, None, drop, nat_le, option_and_then, slice_get, ◌&&◌, if◌then◌else◌}
+use Rattle.std.specs.Prelude.{ℕ, ◌+◌, Bool, false, List, [], ◌∷◌, Option, Some, None, drop, length, nat_le, not, ◌==◌, option_and_then, slice_get, ◌&&◌, if◌then◌else◌}
 use Rattle.std.specs.List.{filter}
 use Rattle.tp_base.specs.declared.answers.Answer.{Answer}
 use Rattle.tp_base.specs.declared.calls.Call.{Call}
@@ -17,6 +17,10 @@ next_in script = next_at script.lines
 
 abbrev pub progress_in : Parsed → Part → Progress → Answer → Progress
 progress_in script = progress_after script.lines
+
+-- whether it has marks
+abbrev pub has_marks : Parsed → Bool
+has_marks script = not (length script.marks == 0)
 
 -- whether the operation may be refused
 abbrev pub is_tried : Option Line → Bool

@@ -9,7 +9,7 @@ ghost use Rattle.script_lines.specs.Readings.{Goes, IsLineRead, Steps, Trail, fi
 ghost use Rattle.script_lines.specs.Texts.{Spot};
 ghost use Rattle.tp_script.specs.Answers.{IsScriptFault, IsThat};
 ghost use Rattle.tp_script.specs.Parsed.{Parsed, parsed};
-ghost use Rattle.tp_script.specs.Parts.{group_line, line_of, marks_behind, may_refuse, memory_line, object_line, operations, part_marks};
+ghost use Rattle.tp_script.specs.Parts.{group_line, has_marks, line_of, marks_behind, may_refuse, memory_line, object_line, operations, part_marks};
 ghost use Rattle.tp_script.specs.Scripts.{IsFaultIn, IsParsed, IsScript, is_local};
 ghost use Rattle.tp_base.specs.Ranges.{IsCallInRange};
 ghost use Rattle.tp_script.specs.Calls.{IsOfPart};
@@ -122,6 +122,13 @@ impl Script {
     {
         let place = self.place_of(part)?;
         self.numbers.get(place as usize + op as usize).copied()
+    }
+
+    /// Whether it has marks.
+    pub fn has_marks(&self) -> bool
+        ensures { result ≡ has_marks self.now }
+    {
+        !self.marks.is_empty()
     }
 
     /// The marks that stand behind so many operations of a part, and before the next one.

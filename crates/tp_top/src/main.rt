@@ -66,7 +66,7 @@ fn word_fault(error: Error) -> Status {
 /// Prints the line of a status, if it has one.
 fn report(rt: &HostRuntime, status: Status) -> io::Result<()> {
     match status {
-        Status::Fine | Status::NotLegal => Ok(()),
+        Status::Fine | Status::NotLegal | Status::Bad | Status::GaveUp => Ok(()),
         Status::Words => eprintln!(rt; "tpool: bad words"),
         Status::BadLine { line, column } => {
             eprintln!(rt; "tpool: bad line {line} column {column}")

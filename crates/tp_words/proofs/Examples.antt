@@ -3,7 +3,7 @@ use Rattle.std.proofs.Common.{◌≡◌, false, true, [], ◌∷◌, Some, None,
 use Rattle.tp_words.specs.Said.{Said, said}
 
 abbrev silent : Said
-silent = record { command = None; number = None; threads = None; seed = None; workers = None; events = None; json = false }
+silent = record { command = None; number = None; threads = None; seed = None; workers = None; events = None; states = None; json = false }
 
 -- ---- good lists
 
@@ -25,11 +25,12 @@ a_number_behind_dashes = refl
 dashes_alone : said (codes "--" ∷ codes "trace" ∷ codes "--" ∷ []) ≡ Some (record silent { command = Some (codes "trace"); number = Some (codes "--") })
 dashes_alone = refl
 
-options_before_and_behind : said (codes "--workers" ∷ codes "4" ∷ codes "trace" ∷ codes "--events=16" ∷ codes "--threads" ∷ codes "1" ∷ []) ≡ Some (record silent {
+options_before_and_behind : said (codes "--workers" ∷ codes "4" ∷ codes "trace" ∷ codes "--events=16" ∷ codes "--threads" ∷ codes "1" ∷ codes "--states=9" ∷ []) ≡ Some (record silent {
   command = Some (codes "trace");
   threads = Some (codes "1");
   workers = Some (codes "4");
   events = Some (codes "16");
+  states = Some (codes "9");
 })
 options_before_and_behind = refl
 

@@ -41,6 +41,7 @@ said_by_rows rows = record {
   seed = first_of (codes "seed") rows;
   workers = first_of (codes "workers") rows;
   events = first_of (codes "events") rows;
+  states = first_of (codes "states") rows;
   json = is_true (first_of (codes "json") rows);
 }
 

@@ -40,7 +40,8 @@ option_rule id = one id (Some id) None
 abbrev ones : List Rule
 ones =
     one (codes "command") None (Some 1) ∷ one (codes "number") None (Some 2)
-    ∷ option_rule (codes "threads") ∷ option_rule (codes "seed") ∷ option_rule (codes "workers") ∷ option_rule (codes "events") ∷ []
+    ∷ option_rule (codes "threads") ∷ option_rule (codes "seed") ∷ option_rule (codes "workers") ∷ option_rule (codes "events")
+    ∷ option_rule (codes "states") ∷ []
 
 unfoldable pub rules : List Rule
 rules = ones ++ flag_rule ∷ []
@@ -94,6 +95,10 @@ events_is_one : IsOne (codes "events")
 unfolding rules
 events_is_one = record { long = Some (codes "events"); index = None; rule = refl; same = refl }
 
+states_is_one : IsOne (codes "states")
+unfolding rules
+states_is_one = record { long = Some (codes "states"); index = None; rule = refl; same = refl }
+
 pub flag_by_id : arg_by_id rules json ≡ Some flag_rule
 unfolding rules
 flag_by_id = refl
@@ -122,18 +127,20 @@ IsLong found option is_flag =
 
 pub long_cases : (name : Text) → IsLong (arg_by_long rules name) (option_named name) (bytes_eq json name)
 unfolding rules
-long_cases name = go (bytes_eq (codes "threads") name) (bytes_eq (codes "seed") name) (bytes_eq (codes "workers") name) (bytes_eq (codes "events") name) (bytes_eq json name)
+long_cases name = go (bytes_eq (codes "threads") name) (bytes_eq (codes "seed") name) (bytes_eq (codes "workers") name) (bytes_eq (codes "events") name) (bytes_eq (codes "states") name) (bytes_eq json name)
   where
-    go : (a b c d e : Bool) → IsLong
+    go : (a b c d e f : Bool) → IsLong
         (cond (a || false) (Some (option_rule (codes "threads"))) (cond (b || false) (Some (option_rule (codes "seed")))
-        (cond (c || false) (Some (option_rule (codes "workers"))) (cond (d || false) (Some (option_rule (codes "events"))) (cond (e || false) (Some flag_rule) None)))))
-        (cond a (Some (codes "threads")) (cond b (Some (codes "seed")) (cond c (Some (codes "workers")) (cond d (Some (codes "events")) None)))) e
-    go true b c d e = inl (codes "threads", threads_is_one, refl, refl)
-    go false true c d e = inl (codes "seed", seed_is_one, refl, refl)
-    go false false true d e = inl (codes "workers", workers_is_one, refl, refl)
-    go false false false true e = inl (codes "events", events_is_one, refl, refl)
-    go false false false false true = inr (inl (refl, refl, refl))
-    go false false false false false = inr (inr (refl, refl, refl))
+        (cond (c || false) (Some (option_rule (codes "workers"))) (cond (d || false) (Some (option_rule (codes "events")))
+        (cond (e || false) (Some (option_rule (codes "states"))) (cond (f || false) (Some flag_rule) None))))))
+        (cond a (Some (codes "threads")) (cond b (Some (codes "seed")) (cond c (Some (codes "workers")) (cond d (Some (codes "events")) (cond e (Some (codes "states")) None))))) f
+    go true b c d e f = inl (codes "threads", threads_is_one, refl, refl)
+    go false true c d e f = inl (codes "seed", seed_is_one, refl, refl)
+    go false false true d e f = inl (codes "workers", workers_is_one, refl, refl)
+    go false false false true e f = inl (codes "events", events_is_one, refl, refl)
+    go false false false false true f = inl (codes "states", states_is_one, refl, refl)
+    go false false false false false true = inr (inl (refl, refl, refl))
+    go false false false false false false = inr (inr (refl, refl, refl))
 
 -- ---- the end of a parse
 
@@ -165,7 +172,7 @@ defaults_are rows = kept ones (flag_rule ∷ []) (
         no_default (codes "seed") (Some (codes "seed")) None,
         (
           no_default (codes "workers") (Some (codes "workers")) None,
-          (no_default (codes "events") (Some (codes "events")) None, tt),
+          (no_default (codes "events") (Some (codes "events")) None, (no_default (codes "states") (Some (codes "states")) None, tt)),
         ),
       ),
     ),
@@ -202,7 +209,7 @@ no_default_fault rows = quiet rules (
           one_default (codes "workers") (Some (codes "workers")) None,
           (
             one_default (codes "events") (Some (codes "events")) None,
-            (flag_default, tt),
+            (one_default (codes "states") (Some (codes "states")) None, (flag_default, tt)),
           ),
         ),
       ),

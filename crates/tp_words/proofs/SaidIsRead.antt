@@ -52,6 +52,7 @@ told_is uses = λ i. record {
   seed = other_text (codes "seed") uses refl i;
   workers = other_text (codes "workers") uses refl i;
   events = other_text (codes "events") uses refl i;
+  states = other_text (codes "states") uses refl i;
   json = flag_text uses i;
 }
 

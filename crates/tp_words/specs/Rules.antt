@@ -17,7 +17,7 @@ bare = let a = new_app (codes "tpool") in record a { top = record a.top { no_bin
 
 abbrev pub tpool : App
 tpool =
-    with_rule (with_rule (with_rule (with_rule (with_rule (with_rule (with_rule bare
+    with_rule (with_rule (with_rule (with_rule (with_rule (with_rule (with_rule (with_rule bare
     (alone (codes "command"))) (alone (codes "number")))
     (valued (codes "threads"))) (valued (codes "seed"))) (valued (codes "workers"))) (valued (codes "events")))
-    (flag (codes "json"))
+    (valued (codes "states"))) (flag (codes "json"))

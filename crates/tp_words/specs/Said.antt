@@ -14,6 +14,7 @@ pub record Said : Type 0 where
   pub seed : Option Text
   pub workers : Option Text
   pub events : Option Text
+  pub states : Option Text
   pub json : Bool
 
 abbrev pub said_in : Texts → Said
@@ -24,6 +25,7 @@ said_in texts = record {
   seed = option_map (λ text. text.now) texts.seed;
   workers = option_map (λ text. text.now) texts.workers;
   events = option_map (λ text. text.now) texts.events;
+  states = option_map (λ text. text.now) texts.states;
   json = texts.json;
 }
 
@@ -49,7 +51,7 @@ Word = List Use × Reading
 
 -- the option with a value that is so named
 abbrev pub option_named : Text → Option Text
-option_named name = find (λ option. bytes_eq option name) (codes "threads" ∷ codes "seed" ∷ codes "workers" ∷ codes "events" ∷ [])
+option_named name = find (λ option. bytes_eq option name) (codes "threads" ∷ codes "seed" ∷ codes "workers" ∷ codes "events" ∷ codes "states" ∷ [])
 
 -- nothing is said where an option waits for its value
 abbrev pub unawaited : {X : Type 0} → Option Text → Option X → Option X
@@ -124,6 +126,7 @@ said_by uses = record {
   seed = text_of (codes "seed") uses;
   workers = text_of (codes "workers") uses;
   events = text_of (codes "events") uses;
+  states = text_of (codes "states") uses;
   json = is_true (text_of (codes "json") uses);
 }
 

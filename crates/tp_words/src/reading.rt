@@ -25,6 +25,8 @@ pub struct Texts<'a> {
     pub workers: Option<&'a str>,
     /// The value of `--events`.
     pub events: Option<&'a str>,
+    /// The value of `--states`.
+    pub states: Option<&'a str>,
     /// Whether `--json` was there.
     pub json: bool,
 }
@@ -99,6 +101,7 @@ fn tpool_command<'a>(alloc: Global) -> Result<Command<'a>, AllocError>
     let command = with(command, valued(alloc, "seed"))?;
     let command = with(command, valued(alloc, "workers"))?;
     let command = with(command, valued(alloc, "events"))?;
+    let command = with(command, valued(alloc, "states"))?;
     with(command, flag(alloc, "json"))
 }
 
@@ -123,6 +126,7 @@ pub fn read<'a>(alloc: Global, words: &'a WordList) -> Result<Texts<'a>, WordFau
             seed: matches.get_str("seed"),
             workers: matches.get_str("workers"),
             events: matches.get_str("events"),
+            states: matches.get_str("states"),
             json: is_true(matches.get_str("json")),
         }),
         Err(error) => match error.kind() {

@@ -1,8 +1,5 @@
-use Rattle.std.proofs.Common.{◌≡◌, ◌++◌, arith, drop, length, sym, ◌∙◌, subst, take, take_all, true, false}
-use Rattle.std.proofs.lemmas.List.{take-append-le}
-use Rattle.part_places.specs.declared.place.Place.{Place}
-use Rattle.std.specs.Prelude.{List, ℕ}
-use Rattle.tp_explore.proofs.Replaying.{begins, ends, is_only, steps, stops, IsAlong}
+use Rattle.std.proofs.Common.{◌≡◌, sym, ◌∙◌, true, false}
+use Rattle.tp_explore.proofs.Replaying.{begins, ends, is_only, steps, stops}
 use Rattle.tp_explore.proofs.replayed.replay.Goals as goal
 
 pub loop-by-init : goal.loop-by-init
@@ -10,7 +7,7 @@ loop-by-init g c = begins _ _ _ c.limits-limits.result _ c.requires c.limits-lim
 
 pub returns-then-not-play-clause-whole : goal.returns-then-not-play-clause-whole
 returns-then-not-play-clause-whole g c = λ order is made roomy legal.
-    absurd (stops _ _ _ _ _ _ _ (subst (IsAlong _ _ _ _ _ _) (sym c.deref_mut.ensures.value) c.loop-by.invariant) c.loop-by-test.true (λ ms more rest playing on.
+    absurd (stops _ _ _ _ _ _ _ c.loop-by.invariant c.loop-by-test.true (λ ms more rest playing on.
     let yes = (c.play.ensures.whole ms more rest playing on).0 in
     let wrong : false ≡ true = sym c.if-not-play.true ∙ yes in
     absurd cc) order is made roomy legal)
@@ -18,12 +15,6 @@ returns-then-not-play-clause-whole g c = λ order is made roomy legal.
 pub returns-clause-only : goal.returns-clause-only
 returns-clause-only g c = λ order is made yes. is_only _ _ _ _ order c.loop-by.invariant.machine (ends _ _ _ _ _ _ _ c.loop-by.invariant c.loop-by-test.false) is made
 
--- a slice of the whole vector is written back
-written : (n : ℕ) (new old : List Place) → n ≡ length new → take n (new ++ drop (length new) old) ≡ new
-written n new old same = take-append-le n new (drop (length new) old) (omega (arith, same)) ∙ take_all n new (omega (arith, same))
-
 pub loop-by-preserved : goal.loop-by-preserved
 loop-by-preserved g c =
-    let len : c.loop-by.places.len ≡ length c.play.new.places = omega arith in
-    subst (IsAlong _ _ _ _ _ _) (sym (written c.loop-by.places.len c.play.new.places c.loop-by.places.items len))
-    (steps _ _ _ _ _ _ _ (subst (IsAlong _ _ _ _ _ _) (sym c.deref_mut.ensures.value) c.loop-by.invariant) c.loop-by-test.true _ c.play.new.places c.play.ensures.machine (c.play.ensures.played c.if-not-play.false) (λ ms more rest playing on. (c.play.ensures.whole ms more rest playing on).1))
+    steps _ _ _ _ _ _ _ c.loop-by.invariant c.loop-by-test.true _ c.play.new.places.items c.play.ensures.machine (c.play.ensures.played c.if-not-play.false) (λ ms more rest playing on. (c.play.ensures.whole ms more rest playing on).1)

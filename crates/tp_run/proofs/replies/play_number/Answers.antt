@@ -2,7 +2,7 @@ use Rattle.std.proofs.Common.{◌≡◌, Err, sym, subst, ap, ◌∙◌, arith}
 use Rattle.std.proofs.lemmas.Result.{IfOk-weaker}
 use Rattle.tp_run.specs.Played.{long_script}
 use Rattle.tp_script.specs.Answers.{IsThat}
-use Rattle.tp_script.specs.Scripts.{IsScript}
+use Rattle.tp_script.specs.Scripts.{IsParsed, IsScript}
 use Rattle.tp_run.proofs.replies.play_number.Goals as goal
 
 -- the text is a script, and of such a one no fault is told
@@ -16,7 +16,7 @@ unreachable-requires g c =
 -- the text is a script, and that one was played
 pub returns : goal.returns
 returns g c =
-    let lines = c.in-Ok.script.lines in
+    let script = c.in-Ok.script in
     let text : c.deref.result.now ≡ long_script c.args.number = c.deref.ensures.value ∙ c.in_ok-text.ensures in
-    let script : IsScript (long_script c.args.number) lines = subst (λ t. IsScript t lines) text c.in-Ok.ensures.ok in
-    IfOk-weaker c.play_unwritten.result _ _ (λ output played. (lines, script, played)) c.play_unwritten.ensures
+    let parsed : IsParsed (long_script c.args.number) script = subst (λ t. IsParsed t script) text c.in-Ok.ensures.parsed in
+    IfOk-weaker c.play_unwritten.result _ _ (λ output played. (script, parsed, played)) (c.play_unwritten.ensures (long_script c.args.number))

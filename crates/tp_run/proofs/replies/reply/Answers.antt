@@ -22,11 +22,11 @@ returns-in-Run g c =
     let made = c.in-Run in
     let told = c.play_turns.ensures in
     subst (λ k. IsReply k c.args.bytes.now c.play_turns.result) (sym made.is)
-    (run_reply c.args.bytes.now made.threads made.seed made.machine made.json c.play_turns.result (one_of c.one_history_alone.ensures c.one_history_drawn.ensures made.seed) c.one_script_a_text.ensures told.ok told.err)
+    (run_reply c.args.bytes.now made.threads made.seed made.machine made.json c.play_turns.result (one_of c.one_history_alone.ensures c.one_history_drawn.ensures made.seed) c.one_reading_a_text.ensures told.ok told.err)
 
 pub returns-in_ok-output-in-Big : goal.returns-in_ok-output-in-Big
 returns-in_ok-output-in-Big g c =
     let made = c.in-Big in
     let output = c.in_ok-output-in-Big in
     subst (λ k. IsOutput k c.args.bytes.now output.output.text.items output.output.ending) (sym made.is)
-    (big_output c.args.bytes.now made.number made.machine made.json output.output c.one_history_alone-in-Big.ensures c.one_script_a_text-in-Big.ensures output.ensures)
+    (big_output c.args.bytes.now made.number made.machine made.json output.output c.one_history_alone-in-Big.ensures c.one_reading_a_text-in-Big.ensures output.ensures)

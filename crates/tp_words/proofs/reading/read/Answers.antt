@@ -25,7 +25,8 @@ returns-in-Ok-clause-ok c =
     let seed = c.get_str-in-Ok-3.ensures ∙ at (codes "seed") in
     let workers = c.get_str-in-Ok-4.ensures ∙ at (codes "workers") in
     let events = c.get_str-in-Ok-5.ensures ∙ at (codes "events") in
-    let json = c.is_true.ensures ∙ ap is_true (c.get_str-in-Ok-6.ensures ∙ at (codes "json")) in
+    let states = c.get_str-in-Ok-6.ensures ∙ at (codes "states") in
+    let json = c.is_true.ensures ∙ ap is_true (c.get_str-in-Ok-7.ensures ∙ at (codes "json")) in
     sym is_read ∙ (unless_none (fault_of tpool words) (Some (said_by_rows (matches_of tpool words))) faults
     ∙ (λ i. Some (record {
       command = sym command i;
@@ -34,6 +35,7 @@ returns-in-Ok-clause-ok c =
       seed = sym seed i;
       workers = sym workers i;
       events = sym events i;
+      states = sym states i;
       json = sym json i;
     })))
 

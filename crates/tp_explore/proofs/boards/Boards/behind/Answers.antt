@@ -11,9 +11,9 @@ returns g c = λ w made.
     let l = c.args.self.now.limits in
     let b = board_of w made c.args.places.now c.args.notes.now in
     c.unless.ensures k l
-    ∙ comes k l b c.args.entry (g.V.Reads.world_of c.args.world) (g.V.Reads.made_of c.args.world) c.in_ok-places.places.items c.place_at-before.result c.place_at-after.result c.enter.new.notes c.deref-2.result.now
-    (cc (c.in_ok-places.ensures))
-    (cc (c.place_at-before.ensures))
-    (cc (c.place_at-after.ensures, c.deref.ensures.value))
+    ∙ comes k l b c.args.entry (g.V.Reads.world_of c.args.world) (g.V.Reads.made_of c.args.world) c.in_ok-places.places c.at-before.result c.at-after.result c.enter.new.notes c.deref.result.now
+    c.in_ok-places.ensures
+    c.at-before.ensures
+    c.at-after.ensures
     (cc (c.in_ok-faults.ensures.noted, c.in_ok-notes.ensures))
-    (c.deref-2.ensures.value ∙ c.in_ok-faults.ensures.faults ∙ ap (λ noted. brought k l (g.V.Reads.world_of c.args.world) (record { entry = c.args.entry; before = c.place_at-before.result; after = c.place_at-after.result }) noted) c.in_ok-notes.ensures)
+    (c.deref.ensures.value ∙ c.in_ok-faults.ensures.faults ∙ ap (λ noted. brought k l (g.V.Reads.world_of c.args.world) (record { entry = c.args.entry; before = c.at-before.result; after = c.at-after.result }) noted) c.in_ok-notes.ensures)

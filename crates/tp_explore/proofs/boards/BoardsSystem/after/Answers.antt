@@ -7,12 +7,12 @@ use Rattle.tp_explore.proofs.boards.BoardsSystem.after.Goals as goal
 pub returns-in-Some : goal.returns-in-Some
 returns-in-Some g c =
     let w = g.V.Reads.world_of c.board.inside.world in
-    let same = moves (watched c.args.self.now.script.now) c.args.self.now.limits c.args.board.now w (g.V.Reads.made_of c.board.inside.world) c.board.inside.places.items c.deref.result.now c.deref-in-Some.result.now c.board.inside.notes
-    c.mover.result c.args.by c.in-Some.call (sym c.board.view_is) c.deref.ensures.value c.deref-in-Some.ensures.value c.mover.ensures (c.in-Some.ensures.value w) in
+    let same = moves (watched c.args.self.now.script.now) c.args.self.now.limits c.args.board.now w (g.V.Reads.made_of c.board.inside.world) c.board.inside.places c.board.inside.notes
+    c.mover.result c.args.by c.in-Some.call (sym c.board.view_is) c.mover.ensures (c.in-Some.ensures.value w) in
     IfOk-weaker c.called.result _ _ (λ next is. is ∙ same) c.called.ensures
 
 pub returns-in-None : goal.returns-in-None
 returns-in-None g c =
     let w = g.V.Reads.world_of c.board.inside.world in
-    stays (watched c.args.self.now.script.now) c.args.self.now.limits c.args.board.now w (g.V.Reads.made_of c.board.inside.world) c.board.inside.places.items c.deref.result.now c.board.inside.notes
-    c.args.by (sym c.board.view_is) c.deref.ensures.value (c.in-None.ensures.value w)
+    stays (watched c.args.self.now.script.now) c.args.self.now.limits c.args.board.now w (g.V.Reads.made_of c.board.inside.world) c.board.inside.places c.board.inside.notes
+    c.args.by (sym c.board.view_is) (c.in-None.ensures.value w)

@@ -1,8 +1,8 @@
-use Rattle.std.proofs.Common.{◌≡◌, true, Some, ap, subst, ◌∙◌}
+use Rattle.std.proofs.Common.{◌≡◌, ap, subst, ◌∙◌}
 use Rattle.recorded.specs.ProgramLimits.{program_limits}
 use Rattle.tp_run.specs.Played.{limits_for, routines_of}
-use Rattle.tp_run.proofs.Scripted.{never_waits, run_output}
-use Rattle.tp_run.proofs.played.play_script_drawn.Goals as goal
+use Rattle.tp_run.proofs.Scripted.{never_waits}
+use Rattle.tp_run.proofs.played.run_drawn.Goals as goal
 use Rattle.worker_gate.specs.Drawn.{IsDrawn}
 
 pub play_routines_drawn-requires-clause-calm : goal.play_routines_drawn-requires-clause-calm
@@ -13,8 +13,12 @@ returns g c =
     let script = c.args.script.now.lines in
     let run = c.in_ok-played.played in
     let told = c.in_ok-played.ensures in
-    let made = c.whole_output.ensures in
     let limits : c.program_limits-limits.result ≡ limits_for script c.args.machine =
     c.program_limits-limits.ensures.value ∙ ap (λ n. program_limits n c.args.machine.workers) c.clients.ensures in
-    run_output script 1 (Some c.args.seed) (record { history = true; json = c.args.json }) run.book run.cut (limits_for script c.args.machine) c.args.machine.events c.whole_output.result (told.limits ∙ limits) told.capacity told.runs
-    (λ _. subst (λ l. IsDrawn c.args.seed (routines_of script) l c.args.machine.events run.book.history) limits told.drawn) told.cut made.legal made.laws made.output
+    record {
+      limits_are = told.limits ∙ limits;
+      capacity_is = told.capacity;
+      runs = told.runs;
+      alone = λ _. subst (λ l. IsDrawn c.args.seed (routines_of script) l c.args.machine.events run.book.history) limits told.drawn;
+      cut_is = told.cut;
+    }
