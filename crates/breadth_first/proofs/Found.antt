@@ -10,9 +10,10 @@ use Rattle.breadth_first.specs.declared.Answer.TheVariants.{Bad as BadFor, GaveU
 use Rattle.breadth_first.specs.declared.Next.TheVariants.{Bad, To}
 use Rattle.breadth_first.specs.declared.searching.Origin.{Origin}
 use Rattle.breadth_first.specs.declared.searching.Search.{Search}
+use Rattle.breadth_first.specs.declared.searching.Waiting.{Waiting}
 use Rattle.breadth_first.specs.Answers.{IsKeyMet}
 use Rattle.breadth_first.specs.Rules.{Rules, comes_to, move_of, Keeps}
-use Rattle.breadth_first.specs.Searched.{origin_of, AreMet, Entry, IsFound, IsHeld, IsSearched, IsWithin, Met, keys_of, way_to}
+use Rattle.breadth_first.specs.Searched.{origin_of, remade, AreMet, Entry, IsFound, IsHeld, IsSearched, IsWithin, Met, keys_of, way_to}
 use Rattle.breadth_first.proofs.Ahead.{none_bad}
 use Rattle.breadth_first.proofs.Held.{as_many, entry_at, way_there}
 use Rattle.breadth_first.proofs.Moves.{met_move}
@@ -68,7 +69,7 @@ module _ {S : Type 0} (r : Rules S) (like : S → S → Type 0)
         none_bad r like itself kept keeps searched.mets at 0 (length moves) searched.are (λ i n there deep. omega (arith, slice_get_within searched.mets i n there)) moves (omega arith)
 
     as_long : length search.waiting.items + at ≡ max at (length searched.mets)
-    as_long = omega (arith, ap length searched.of.queue, length-map (drop at searched.mets) (λ (m : Met S). m.state), length-drop at searched.mets)
+    as_long = omega (arith, ap length searched.of.queue, length-map search.waiting.items (remade r), length-map (drop at searched.mets) (λ (m : Met S). To m.state), length-drop at searched.mets)
 
     -- no state waits
     pub none_left : length search.waiting.items ≡ 0 → (moves : List ℕ) → comes_to r moves ≢ Bad
@@ -79,7 +80,7 @@ module _ {S : Type 0} (r : Rules S) (like : S → S → Type 0)
     none_more all = all_gone (omega (arith, searched.of.within))
 
     -- the state that waits first
-    module _ (state : S) (rest : List S) (waits : search.waiting.items ≡ state ∷ rest) (depth : ℕ) (told : (e : Entry) → slice_get search.origins.entries at ≡ Some e → depth ≡ e.1.depth) where
+    module _ (next : Waiting S) (rest : List (Waiting S)) (waits : search.waiting.items ≡ next ∷ rest) (depth : ℕ) (told : (e : Entry) → slice_get search.origins.entries at ≡ Some e → depth ≡ e.1.depth) where
       first_waits : (m : Met S) × (slice_get searched.mets at ≡ Some m)
       first_waits = get_some searched.mets at (omega (arith, as_long, ap length waits))
 
@@ -92,25 +93,35 @@ module _ {S : Type 0} (r : Rules S) (like : S → S → Type 0)
       pub none_few : (moves : List ℕ) → length moves ≤ depth → comes_to r moves ≢ Bad
       none_few moves few = none_before searched.mets at 0 searched.are first_waits.0 first_waits.1 moves (omega (arith, first_deep))
 
+      queued : remade r next ∷ map (remade r) rest ≡ To first_waits.0.state ∷ map (λ (m : Met S). To m.state) (drop (at + 1) searched.mets)
+      queued = ap (map (remade r)) (sym waits) ∙ searched.of.queue ∙ ap (map (λ (m : Met S). To m.state)) (drop_at searched.mets at first_waits.0 first_waits.1)
+
+      made : remade r next ≡ To first_waits.0.state
+      made = let e = queued in cc
+
+      -- it can be made again
+      pub makes : (s : S) × (remade r next ≡ To s)
+      makes = (first_waits.0.state, made)
+
       -- it is gone through next
-      pub entered : (after : Search S) → after.most ≡ search.most → after.origins.entries ≡ search.origins.entries → after.waiting.items ≡ rest → IsWithin r most (origin_of at 0 (depth + 1)) state after
-      entered after limit entries waiting = record {
+      pub entered : (state : S) → remade r next ≡ To state → (after : Search S) → after.most ≡ search.most → after.origins.entries ≡ search.origins.entries → after.waiting.items ≡ rest → IsWithin r most (origin_of at 0 (depth + 1)) state after
+      entered state is after limit entries waiting = record {
         mets = searched.mets;
         of = record {
           limit = limit ∙ searched.of.limit;
           within = searched.of.within;
           held = subst (IsHeld searched.mets r) (sym entries) searched.of.held;
-          queue = waiting ∙ parts.1;
+          queue = ap (map (remade r)) waiting ∙ left;
         };
         are = searched.are;
         met = first_waits.0;
         here = first_waits.1;
-        this = sym parts.0;
+        this = same;
         deep = omega (arith, first_deep);
       }
         where
-          both : state ∷ rest ≡ first_waits.0.state ∷ map (λ (m : Met S). m.state) (drop (at + 1) searched.mets)
-          both = sym waits ∙ searched.of.queue ∙ ap (map (λ (m : Met S). m.state)) (drop_at searched.mets at first_waits.0 first_waits.1)
+          left : map (remade r) rest ≡ map (λ (m : Met S). To m.state) (drop (at + 1) searched.mets)
+          left = let e = queued in cc
 
-          parts : (state ≡ first_waits.0.state) × (rest ≡ map (λ (m : Met S). m.state) (drop (at + 1) searched.mets))
-          parts = let e = both in (cc, cc)
+          same : first_waits.0.state ≡ state
+          same = let e : To first_waits.0.state ≡ To state = sym made ∙ is in cc

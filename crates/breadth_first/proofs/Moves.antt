@@ -10,8 +10,9 @@ use Rattle.breadth_first.specs.declared.Next.{Next}
 use Rattle.breadth_first.specs.declared.Next.TheVariants.{Nowhere, To}
 use Rattle.breadth_first.specs.declared.searching.Origin.{Origin}
 use Rattle.breadth_first.specs.declared.searching.Search.{Search}
+use Rattle.breadth_first.specs.declared.searching.Waiting.{Waiting}
 use Rattle.breadth_first.specs.Rules.{Rules, move_of}
-use Rattle.breadth_first.specs.Searched.{next_origin, Entry, IsHeld, IsLedTo, IsSearched, IsWithin, Met, keys_of}
+use Rattle.breadth_first.specs.Searched.{next_origin, remade, Entry, IsHeld, IsLedTo, IsSearched, IsWithin, Met, keys_of}
 use Rattle.breadth_first.proofs.Held.{as_many, held_more, met_at, none_found}
 use Rattle.breadth_first.proofs.Places.{get_kept, none_of, some_of}
 use Rattle.breadth_first.proofs.Steps.{behind, met_more, met_passed, met_through}
@@ -19,6 +20,10 @@ use Rattle.breadth_first.proofs.Steps.{behind, met_more, met_passed, met_through
 -- what comes of a move that is one
 pub move_is : {S : Type 0} (r : Rules S) (s : S) (by : ℕ) → by < r.width → move_of r s by ≡ r.after s by
 move_is {S} r s by h = ap (λ (b : Bool). if b then r.after s by else Nowhere) (lt-ltb by r.width h)
+
+-- of states that are the same, a move comes to the same
+pub move_same : {S : Type 0} (r : Rules S) (s t : S) (by : ℕ) → s ≡ t → move_of r s by ≡ move_of r t by
+move_same {S} r s t by same = ap (λ (x : S). move_of r x by) same
 
 module _ {S : Type 0} (r : Rules S) (most : ℕ) (origin : Origin) (state : S) (search : Search S) (within : IsWithin r most origin state search) where
   -- a move of the state at hand, as one of what was met there
@@ -64,9 +69,9 @@ module _ {S : Type 0} (r : Rules S) (most : ℕ) (origin : Origin) (state : S) (
     -- and now it is
     pub led_more : ((k : Vec ℕ) → k.items ≡ r.key next → test k ≡ true) → is_some (lookup test search.origins.entries) ≡ false
         → (after : Search S) (key : Vec ℕ) → key.items ≡ r.key next → after.most ≡ search.most → length search.origins.entries < most
-        → after.origins.entries ≡ search.origins.entries ++ (key, origin) ∷ [] → after.waiting.items ≡ search.waiting.items ++ next ∷ []
+        → after.origins.entries ≡ search.origins.entries ++ (key, origin) ∷ [] → (waits : Waiting S) → remade r waits ≡ To next → after.waiting.items ≡ search.waiting.items ++ waits ∷ []
         → IsWithin r most (next_origin origin) state after
-    led_more tells none after key is_key limit fewer entries waiting =
+    led_more tells none after key is_key limit fewer entries waits made waiting =
         let mets = within.mets ++ behind within.met next origin.by ∷ [] in
         record {
           mets = mets;
@@ -74,7 +79,12 @@ module _ {S : Type 0} (r : Rules S) (most : ℕ) (origin : Origin) (state : S) (
             limit = limit ∙ within.of.limit;
             within = omega (arith, as_many r within.mets search.origins.entries within.of.held, length-append within.mets (behind within.met next origin.by ∷ []));
             held = subst (λ (es : List Entry). IsHeld mets r es) (sym entries) (held_more r within.mets search.origins.entries within.of.held origin.from within.met within.here next origin.by key origin is_key refl refl (sym within.deep));
-            queue = waiting ∙ ap (λ (xs : List S). xs ++ next ∷ []) within.of.queue ∙ queued;
+            queue =
+                ap (map (remade r)) waiting
+                ∙ map-append (remade r) search.waiting.items (waits ∷ [])
+                ∙ ap (λ (x : Next S). map (remade r) search.waiting.items ++ x ∷ []) made
+                ∙ ap (λ (xs : List (Next S)). xs ++ To next ∷ []) within.of.queue
+                ∙ queued;
           };
           are = met_more r within.mets origin.from origin.by within.are within.met within.here next (met_move (To next) leads) (led_new tells none);
           met = within.met;
@@ -83,7 +93,7 @@ module _ {S : Type 0} (r : Rules S) (most : ℕ) (origin : Origin) (state : S) (
           deep = within.deep;
         }
       where
-        queued : map (λ (m : Met S). m.state) (drop (origin.from + 1) within.mets) ++ next ∷ [] ≡ map (λ (m : Met S). m.state) (drop (origin.from + 1) (within.mets ++ behind within.met next origin.by ∷ []))
+        queued : map (λ (m : Met S). To m.state) (drop (origin.from + 1) within.mets) ++ To next ∷ [] ≡ map (λ (m : Met S). To m.state) (drop (origin.from + 1) (within.mets ++ behind within.met next origin.by ∷ []))
         queued =
-            sym (map-append (λ (m : Met S). m.state) (drop (origin.from + 1) within.mets) (behind within.met next origin.by ∷ []))
-            ∙ ap (map (λ (m : Met S). m.state)) (sym (drop-append-le (origin.from + 1) within.mets (behind within.met next origin.by ∷ []) (omega (arith, slice_get_within within.mets origin.from within.met within.here))))
+            sym (map-append (λ (m : Met S). To m.state) (drop (origin.from + 1) within.mets) (behind within.met next origin.by ∷ []))
+            ∙ ap (map (λ (m : Met S). To m.state)) (sym (drop-append-le (origin.from + 1) within.mets (behind within.met next origin.by ∷ []) (omega (arith, slice_get_within within.mets origin.from within.met within.here))))

@@ -6,6 +6,8 @@ use Rattle.breadth_first.specs.declared.Next.{Next}
 use Rattle.breadth_first.specs.declared.Next.TheVariants.{Nowhere, Bad, To}
 use Rattle.breadth_first.specs.declared.searching.Origin.{Origin}
 use Rattle.breadth_first.specs.declared.searching.Search.{Search}
+use Rattle.breadth_first.specs.declared.searching.Waiting.{Waiting}
+use Rattle.breadth_first.specs.declared.searching.Waiting.TheVariants.{First, Behind}
 use Rattle.breadth_first.specs.declared.Answer.{Answer}
 use Rattle.breadth_first.specs.Answers.{Answers, GivesUpFor}
 use Rattle.breadth_first.specs.Rules.{Rules, comes_to, move_of}
@@ -63,12 +65,17 @@ module _ {S : Type 0} (r : Rules S) (mets : List (Met S)) where
     pub near : (i : ℕ) (m n : Met S) → slice_get mets at ≡ Some m → slice_get mets i ≡ Some n → length n.path ≤ length m.path + 1
     pub made : (i move : ℕ) (m : Met S) → IsMade at by i move → slice_get mets i ≡ Some m → IsLedTo (length m.path + 1) (move_of r m.state move)
 
--- these keys and origins, and what waits from a place on, are those of what was met, which is no more than it may be
+-- what a waiting state comes to when it is made again
+abbrev pub remade : {S : Type 0} → Rules S → Waiting S → Next S
+remade {S} r First = To r.first
+remade {S} r (Behind from by) = move_of r from.value by
+
+-- these keys and origins, and what waits from a place on when it is made again, are those of what was met, which is no more than it may be
 pub record IsOf {S : Type 0} (r : Rules S) (most from : ℕ) (search : Search S) (mets : List (Met S)) : Type 0 where
   pub limit : search.most ≡ most
   pub within : length mets ≤ most
   pub held : IsHeld mets r search.origins.entries
-  pub queue : search.waiting.items ≡ map (λ (m : Met S). m.state) (drop from mets)
+  pub queue : map (remade r) search.waiting.items ≡ map (λ (m : Met S). To m.state) (drop from mets)
 
 -- A search between two states: all moves of the first `at` were made, and the others wait.
 pub record IsSearched {S : Type 0} (r : Rules S) (most at : ℕ) (search : Search S) : Type 0 where

@@ -13,6 +13,9 @@
 //! search(alloc, &Jugs { goal: 6 }, 8, 100, &mut measures)        // GaveUp { states: 8, deep: 3 }
 //! ```
 //!
+//! Of a state that waits the search keeps only the state that it came from, which others have in common, and
+//! the move: when its turn comes it is made again.
+//!
 //! States are known by their keys: of states with one key only the first that is met is gone on with. Where
 //! keys tell all states apart, an `impl` gives `IsSame` as `like`, `same_itself`, `same_kept` with the lemma
 //! that its keys do, and `keeps_itself` (`specs/Same`). Where they don't, `like` says which states stand for
@@ -26,7 +29,7 @@ ghost use Rattle.breadth_first.specs.Rules.{Keeps, Rules};
 
 mod searching;
 
-use searching::{begin, expand};
+use searching::{begin, expand, remake};
 use std::alloc::{AllocError, Global};
 
 /// What comes of a move.
@@ -130,7 +133,7 @@ pub fn search<S: System>(
     measures.states = measures.states.wrapping_add(1);
     for at in 0..most {
         let depth = search.depth(at);
-        let Some(state) = search.waiting.pop_front() else {
+        let Some(waiting) = search.waiting.pop_front() else {
             return Ok(Answer::None { states: at });
         };
         if depth >= deepest {
@@ -139,6 +142,7 @@ pub fn search<S: System>(
                 deep: deepest,
             });
         }
+        let state = remake(alloc, system, waiting)?;
         if let Some(answer) = expand(alloc, system, &mut search, &state, at, depth, measures)? {
             return Ok(answer);
         }

@@ -3,12 +3,13 @@
 ghost use Rattle.std.specs.Prelude.{◌≡◌, ◌<◌, ◌≤◌, ◌+◌, ◌^◌, ℕ, Some, IfOk, MatchOption, length, slice_get};
 ghost use Rattle.breadth_first.specs.declared.Next.TheVariants.{To as LeadsTo};
 ghost use Rattle.breadth_first.specs.Rules.{move_of};
-ghost use Rattle.breadth_first.specs.Searched.{next_origin, origin_of, way_to, Entry, IsFound, IsSearched, IsWithin};
+ghost use Rattle.breadth_first.specs.Searched.{next_origin, origin_of, remade, way_to, Entry, IsFound, IsSearched, IsWithin};
 
 use crate::{Answer, Measures, Next, System};
 use indexmap::IndexMap;
 use std::alloc::{AllocError, Global};
 use std::collections::VecDeque;
+use std::rc::Rc;
 
 // How a state was met: by this move of the state that was met as this one, and after so many moves.
 #[derive(Clone, Copy)]
@@ -20,13 +21,20 @@ pub(crate) struct Origin {
 
 type Origins = IndexMap<Vec<u8>, Origin>;
 
+// How a state that waits is made again: it is the first one, or this move of that state leads to it.
+#[derive(Drop)]
+pub(crate) enum Waiting<T> {
+    First,
+    Behind { from: Rc<T>, by: u32 },
+}
+
 // The states that were met, by their keys and in that order, and those of them that wait. There are
 // at most so many.
 #[derive(Drop)]
 pub(crate) struct Search<T> {
     most: u32,
     origins: Origins,
-    pub(crate) waiting: VecDeque<T>,
+    pub(crate) waiting: VecDeque<Waiting<T>>,
 }
 
 impl<T: Drop> Search<T> {
@@ -67,12 +75,30 @@ pub(crate) fn begin<S: System>(
         depth: 0,
     };
     origins.insert(key, origin)?;
-    waiting.push_back(first)?;
+    waiting.push_back(Waiting::First)?;
     Ok(Search {
         most,
         origins,
         waiting,
     })
+}
+
+// Makes a state that waits again.
+pub(crate) fn remake<S: System>(
+    alloc: Global,
+    system: &S,
+    waiting: Waiting<S::State>,
+) -> Result<Rc<S::State>, AllocError>
+    requires { (state : S.State) × (remade (S.rules system.now) waiting ≡ LeadsTo state) }
+    ensures { IfOk result (λ state. remade (S.rules system.now) waiting ≡ LeadsTo state.value) }
+{
+    match waiting {
+        Waiting::First => Ok(Rc::new(alloc, system.first(alloc)?)?),
+        Waiting::Behind { from, by } => match system.after(alloc, &from, by)? {
+            Next::To(state) => Ok(Rc::new(alloc, state)?),
+            Next::Nowhere | Next::Bad => unreachable!(),
+        },
+    }
 }
 
 // The moves that came to the state at a place, which are so many.
@@ -92,19 +118,22 @@ fn way_back(alloc: Global, origins: &Origins, at: u32, depth: u32) -> Result<Vec
     Ok(way)
 }
 
-// Meets a state, to which the move of the origin led. An answer comes where no more are to be met.
+// Meets a state, to which the move of the origin led from this one. An answer comes where no more are to
+// be met.
 fn meet<S: System>(
     alloc: Global,
     system: &S,
     search: &mut Search<S::State>,
+    state: &Rc<S::State>,
     next: S::State,
     origin: Origin,
     measures: &mut Measures,
 ) -> Result<Option<Answer>, AllocError>
     requires { 0 < origin.depth }
-    ensures { (state : S.State) → IsWithin (S.rules system.now) search.old.most origin state search.old → move_of (S.rules system.now) state origin.by ≡ LeadsTo next → IfOk result (λ found. MatchOption found (IsWithin (S.rules system.now) search.old.most (next_origin origin) state search.new) (IsFound (S.rules system.now) search.old.most)) }
+    ensures { IsWithin (S.rules system.now) search.old.most origin state.now.value search.old → move_of (S.rules system.now) state.now.value origin.by ≡ LeadsTo next → IfOk result (λ found. MatchOption found (IsWithin (S.rules system.now) search.old.most (next_origin origin) state.now.value search.new) (IsFound (S.rules system.now) search.old.most)) }
 {
     let key = system.key(alloc, &next)?;
+    drop(next);
     if search.origins.contains_key(&key) {
         return Ok(None);
     }
@@ -114,8 +143,12 @@ fn meet<S: System>(
             deep: origin.depth - 1,
         }));
     }
+    let waiting = Waiting::Behind {
+        from: state.clone()?,
+        by: origin.by,
+    };
     search.origins.insert(key, origin)?;
-    search.waiting.push_back(next)?;
+    search.waiting.push_back(waiting)?;
     measures.states = measures.states.wrapping_add(1);
     Ok(None)
 }
@@ -126,13 +159,13 @@ fn make<S: System>(
     alloc: Global,
     system: &S,
     search: &mut Search<S::State>,
-    state: &S::State,
+    state: &Rc<S::State>,
     origin: Origin,
     measures: &mut Measures,
 ) -> Result<Option<Answer>, AllocError>
     requires width { origin.by < (S.rules system.now).width }
-    requires within { IsWithin (S.rules system.now) search.old.most origin state.now search.old }
-    ensures { IfOk result (λ found. MatchOption found (IsWithin (S.rules system.now) search.old.most (next_origin origin) state.now search.new) (IsFound (S.rules system.now) search.old.most)) }
+    requires within { IsWithin (S.rules system.now) search.old.most origin state.now.value search.old }
+    ensures { IfOk result (λ found. MatchOption found (IsWithin (S.rules system.now) search.old.most (next_origin origin) state.now.value search.new) (IsFound (S.rules system.now) search.old.most)) }
 {
     match system.after(alloc, state, origin.by)? {
         Next::Nowhere => Ok(None),
@@ -144,7 +177,7 @@ fn make<S: System>(
         }
         Next::To(next) => {
             measures.steps = measures.steps.wrapping_add(1);
-            meet(alloc, system, search, next, origin, measures)
+            meet(alloc, system, search, state, next, origin, measures)
         }
     }
 }
@@ -155,13 +188,13 @@ pub(crate) fn expand<S: System>(
     alloc: Global,
     system: &S,
     search: &mut Search<S::State>,
-    state: &S::State,
+    state: &Rc<S::State>,
     at: u32,
     depth: u32,
     measures: &mut Measures,
 ) -> Result<Option<Answer>, AllocError>
     requires deep { depth + 1 < 2 ^ 32 }
-    requires within { IsWithin (S.rules system.now) search.old.most (origin_of at 0 (depth + 1)) state.now search.old }
+    requires within { IsWithin (S.rules system.now) search.old.most (origin_of at 0 (depth + 1)) state.now.value search.old }
     ensures { IfOk result (λ found. MatchOption found (IsSearched (S.rules system.now) search.old.most (at + 1) search.new) (IsFound (S.rules system.now) search.old.most)) }
 {
     for by in 0..system.width() {

@@ -2,7 +2,7 @@ use Rattle.std.proofs.Common.{◌+◌, ℕ, length, refl, sym, ap, subst, arith}
 use Rattle.std.proofs.lemmas.List.{length-drop}
 use Rattle.breadth_first.specs.Answers.{GivesUpFor}
 use Rattle.breadth_first.specs.Searched.{origin_of, IsWithin}
-use Rattle.breadth_first.proofs.Found.{entered, none_few, none_left, none_more}
+use Rattle.breadth_first.proofs.Found.{entered, makes, none_few, none_left, none_more}
 use Rattle.breadth_first.proofs.Held.{as_many}
 use Rattle.breadth_first.proofs.search.Goals as goal
 
@@ -27,7 +27,15 @@ returns-then-depth-deepest-clause-answers g c = λ moves few.
     let a = c.args.system.now in
     let laws = g.met.S.System in
     none_few (g.S.System.rules a) (g.S.System.like a) (laws.like_itself a) (laws.like_kept a) (laws.keeps a) c.args.most c.loop-at.at c.loop-at.search c.loop-at.invariant
-    c.in-Some.state _ c.in-Some.ensures.items c.depth-depth.result c.depth-depth.ensures moves (omega arith)
+    c.in-Some.waiting _ c.in-Some.ensures.items c.depth-depth.result c.depth-depth.ensures moves (omega arith)
+
+-- what waits can be made again
+pub remake-requires : goal.remake-requires
+remake-requires g c =
+    let a = c.args.system.now in
+    let laws = g.met.S.System in
+    makes (g.S.System.rules a) (g.S.System.like a) (laws.like_itself a) (laws.like_kept a) (laws.keeps a) c.args.most c.loop-at.at c.loop-at.search c.loop-at.invariant
+    c.in-Some.waiting _ c.in-Some.ensures.items c.depth-depth.result c.depth-depth.ensures
 
 pub expand-requires : goal.expand-requires
 expand-requires g c =
@@ -35,9 +43,9 @@ expand-requires g c =
     let laws = g.met.S.System in
     record {
       deep = omega arith;
-      within = subst (λ (most : ℕ). IsWithin (g.S.System.rules a) most (origin_of c.loop-at.at 0 (c.depth-depth.result + 1)) c.in-Some.state (record c.loop-at.search { waiting = c.pop_front.new.self })) (sym c.loop-at.invariant.of.limit)
+      within = subst (λ (most : ℕ). IsWithin (g.S.System.rules a) most (origin_of c.loop-at.at 0 (c.depth-depth.result + 1)) c.in_ok-state.state.value (record c.loop-at.search { waiting = c.pop_front.new.self })) (sym c.loop-at.invariant.of.limit)
           (entered (g.S.System.rules a) (g.S.System.like a) (laws.like_itself a) (laws.like_kept a) (laws.keeps a) c.args.most c.loop-at.at c.loop-at.search c.loop-at.invariant
-          c.in-Some.state _ c.in-Some.ensures.items c.depth-depth.result c.depth-depth.ensures (record c.loop-at.search { waiting = c.pop_front.new.self }) refl refl refl);
+          c.in-Some.waiting _ c.in-Some.ensures.items c.depth-depth.result c.depth-depth.ensures c.in_ok-state.state.value c.in_ok-state.ensures (record c.loop-at.search { waiting = c.pop_front.new.self }) refl refl refl);
     }
 
 pub returns-in-Some-2-clause-gives_up : goal.returns-in-Some-2-clause-gives_up

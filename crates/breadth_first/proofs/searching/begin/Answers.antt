@@ -14,7 +14,7 @@ returns g c =
         limit = refl;
         within = omega arith;
         held = rw (c.in_ok-insert.ensures.entries, c.new-origins.ensures.empty) (held_first r c.in_ok-key.key is_key);
-        queue = rw (c.in_ok-push_back.ensures.items, c.new-waiting.ensures.items) (ap (λ s. s ∷ []) first);
+        queue = rw (c.in_ok-push_back.ensures.items, c.new-waiting.ensures.items) refl;
       };
       are = met_first r;
     }
