@@ -21,15 +21,15 @@ use Rattle.script_lines.proofs.HeadFacts.{MayHead, line_head}
 use Rattle.tp_script.specs.declared.routines.Part.TheVariants.{Client}
 use Rattle.tp_script.specs.declared.routines.Progress.{Progress}
 use Rattle.tp_script.specs.Calls.{acts, begins_wait, begins_wait_call, call_by, calls_in, is_met, maximum_of, poll_by, small_of}
-use Rattle.tp_script.specs.Nexts.{acting, after_at, call_at, first_progress, line_after, line_at, next_at, noted, number_in, polled, polls, progress_after, stepped, waited, with_local}
+use Rattle.tp_script.specs.Nexts.{acting, after_at, call_at, first_progress, line_after, line_at, next_at, noted, noted_by, polled, polls, progress_after, stepped, waited}
 use Rattle.tp_script.specs.declared.numbered.NumberedLine.{NumberedLine}
 use Rattle.tp_script.specs.Parsed.{Parsed, is_played, played}
-use Rattle.tp_script.specs.Scripts.{IsScript, Reads, first_known, is_local, known_after, words_of}
+use Rattle.tp_script.specs.Scripts.{IsScript, Reads, first_known, known_after, words_of}
 
 -- no call of such a line begins a wait
 record IsCalm (head : Word) : Type 0 where
   of_line : begins_wait head ≡ false
-  of_calls : (line : Line) (done : ℕ) (locals : List ℕ) → IfSome (call_by line done locals head) (λ made. begins_wait_call made ≡ false)
+  of_calls : (line : Line) (at : Progress) → IfSome (call_by line at head) (λ made. begins_wait_call made ≡ false)
 
 -- nor does a poll
 poll_calm : (of : Condition) → IfSome (poll_by of) (λ made. begins_wait_call made ≡ false)
@@ -52,22 +52,22 @@ front_class class.Client may = refl
 front_class _ (inl e) = let no_such : ⊥ = cc in absurd no_such
 front_class _ (inr e) = let no_such : ⊥ = cc in absurd no_such
 
-pool_calm : (line : Line) (done : ℕ) (first second : Bool) → begins_wait_call (if first then call.CreatePool else (if second then call.SetMaximum (record { 0 = line.made }) (maximum_of line) else call.SetMinimum (record { 0 = line.made }) (small_of line.number))) ≡ false
-pool_calm line done true second = refl
-pool_calm line done false true = refl
-pool_calm line done false false = refl
+pool_calm : (line : Line) (first second : Bool) → begins_wait_call (if first then call.CreatePool else (if second then call.SetMaximum (record { 0 = line.made }) (maximum_of line) else call.SetMinimum (record { 0 = line.made }) (small_of line.number))) ≡ false
+pool_calm line true second = refl
+pool_calm line false true = refl
+pool_calm line false false = refl
 
 front_calm : (head : Word) → acts head ≡ true → is_front (class_of head) ≡ true → IsCalm head
 unfolding is_front
 front_calm word.Pool acting front =
-    record { of_line = refl; of_calls = λ line done locals. pool_calm line done (nat_eq done 0) (nat_eq done 1 && line.maximum) }
-front_calm word.Group acting front = record { of_line = refl; of_calls = λ line done locals. refl }
-front_calm word.Event acting front = record { of_line = refl; of_calls = λ line done locals. refl }
-front_calm word.Semaphore acting front = record { of_line = refl; of_calls = λ line done locals. refl }
-front_calm word.Mutex acting front = record { of_line = refl; of_calls = λ line done locals. refl }
-front_calm word.Section acting front = record { of_line = refl; of_calls = λ line done locals. refl }
-front_calm (word.Object kind) acting front = record { of_line = refl; of_calls = λ line done locals. refl }
-front_calm word.Memory acting front = record { of_line = refl; of_calls = λ line done locals. tt }
+    record { of_line = refl; of_calls = λ line at. pool_calm line (nat_eq at.done 0) (nat_eq at.done 1 && line.maximum) }
+front_calm word.Group acting front = record { of_line = refl; of_calls = λ line at. refl }
+front_calm word.Event acting front = record { of_line = refl; of_calls = λ line at. refl }
+front_calm word.Semaphore acting front = record { of_line = refl; of_calls = λ line at. refl }
+front_calm word.Mutex acting front = record { of_line = refl; of_calls = λ line at. refl }
+front_calm word.Section acting front = record { of_line = refl; of_calls = λ line at. refl }
+front_calm (word.Object kind) acting front = record { of_line = refl; of_calls = λ line at. refl }
+front_calm word.Memory acting front = record { of_line = refl; of_calls = λ line at. tt }
 front_calm word.Routine acting front = let no_such : ⊥ = cc in absurd no_such
 front_calm word.Client acting front = let no_such : ⊥ = cc in absurd no_such
 front_calm _ acting front = let no_such : ⊥ = cc in absurd no_such
@@ -147,11 +147,12 @@ module _ (lines : List Line) (front : IsFront lines) where
       by false = record { ending = stands.ending; behind = subst (λ n. AreActing n lines) (let next : suc at.op ≡ at.op + 1 = omega arith in next) further }
 
   after_noted : (line : Line) (at : Progress) (answer : Answer) → Declares lines at → AreActing (suc at.op) lines → Declares lines (stepped (calls_in line) (noted line at answer))
-  after_noted line at answer stands further = by (is_local line.head)
+  after_noted line at answer stands further = by line.head
     where
-      by : (b : Bool) → Declares lines (stepped (calls_in line) (if b then record at { locals = with_local at.locals line.made (number_in answer) } else at))
-      by true = after_step (calls_in line) (record at { locals = with_local at.locals line.made (number_in answer) }) (record { ending = stands.ending; behind = stands.behind }) further
-      by false = after_step (calls_in line) at stands further
+      by : (head : Word) → Declares lines (stepped (calls_in line) (noted_by line.made at answer head))
+      by word.Let = after_step (calls_in line) (noted_by line.made at answer word.Let) (record { ending = stands.ending; behind = stands.behind }) further
+      by word.IssueIo = after_step (calls_in line) (noted_by line.made at answer word.IssueIo) (record { ending = stands.ending; behind = stands.behind }) further
+      by _ = after_step (calls_in line) at stands further
 
   after_line : (line : Line) (at : Progress) (answer : Answer) → IsCalm line.head → Declares lines at → AreActing (suc at.op) lines → Declares lines (line_after line at answer)
   after_line line at answer calm stands further = by (polls line at)
@@ -184,11 +185,11 @@ module _ (lines : List Line) (front : IsFront lines) where
       by None e = tt
       by (Some line) e = by_poll (polls line at)
         where
-          by_poll : (b : Bool) → IfSome (if b then poll_by line.condition else (if at.ending then Some call.End else call_by line at.done at.locals line.head)) (λ made. begins_wait_call made ≡ false)
+          by_poll : (b : Bool) → IfSome (if b then poll_by line.condition else (if at.ending then Some call.End else call_by line at line.head)) (λ made. begins_wait_call made ≡ false)
           by_poll true = poll_calm line.condition
           by_poll false =
-              subst (λ (ends : Bool). IfSome (if ends then Some call.End else call_by line at.done at.locals line.head) (λ made. begins_wait_call made ≡ false)) (sym stands.ending)
-              ((at_front at line stands e).0.of_calls line at.done at.locals)
+              subst (λ (ends : Bool). IfSome (if ends then Some call.End else call_by line at line.head) (λ made. begins_wait_call made ≡ false)) (sym stands.ending)
+              ((at_front at line stands e).0.of_calls line at)
 
 -- client 1 of a script begins no wait, whatever the answers are
 pub first_never_waits : (text : List ℕ) (lines : List Line) → IsScript text lines → (answers : List Answer)

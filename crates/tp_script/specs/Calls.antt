@@ -24,6 +24,7 @@ use Rattle.script_lines.specs.declared.words.Sort.{Sort}
 use Rattle.script_lines.specs.declared.words.Sort.TheVariants as sort
 use Rattle.script_lines.specs.declared.words.Word.{Word}
 use Rattle.script_lines.specs.declared.words.Word.TheVariants as word
+use Rattle.tp_script.specs.declared.routines.Progress.{Progress}
 
 -- a number of 32 bits, the number of an object, a routine's, the count of a semaphore, by how much it is raised, and a time: what a
 -- script can say is in these ranges, and stays as it is
@@ -47,14 +48,18 @@ ticks_of number = if nat_le number clock_end then number else 0
 
 -- the number that a local name stands for, of those of its section
 abbrev pub local_number : ℕ → List ℕ → ℕ
-local_number number locals = if nat_le 1 number && nat_le number 32 then slice_index locals (number - 1) else 0
+local_number number names = if nat_le 1 number && nat_le number 32 then slice_index names (number - 1) else 0
 
--- the number that a name stands for
+-- the number that a name stands for, where the local names of its sort stand for these
 abbrev pub number_at : Meaning → List ℕ → ℕ
-number_at meaning locals = if meaning.local then local_number meaning.number locals else meaning.number
+number_at meaning names = if meaning.local then local_number meaning.number names else meaning.number
 
-abbrev pub object_at : Line → List ℕ → ObjectId
-object_at line locals = record { 0 = id_of (number_at line.object locals) }
+abbrev pub object_at : Line → Progress → ObjectId
+object_at line at = record { 0 = id_of (number_at line.object at.locals) }
+
+-- the callback of the operation that a line names. Each name of an operation is local
+abbrev pub operation_at : Line → Progress → ℕ
+operation_at line at = local_number line.object.number at.operations
 
 abbrev pub kernel_of : Line → KernelId
 kernel_of line = record { 0 = line.kernel.number }
@@ -104,48 +109,48 @@ pool_call line done =
     then call.CreatePool
     else (if nat_eq done 1 && line.maximum then call.SetMaximum (record { 0 = line.made }) (maximum_of line) else call.SetMinimum (record { 0 = line.made }) (small_of line.number))
 
--- the next call of a line, of which `done` were made, where the local names stand for these numbers
-abbrev pub call_by : Line → ℕ → List ℕ → Word → Option Call
-call_by line done locals word.Pool = Some (pool_call line done)
-call_by line done locals word.Group = Some call.CreateGroup
-call_by line done locals word.Event = Some (call.CreateEvent line.manual line.signalled)
-call_by line done locals word.Semaphore = Some (call.CreateSemaphore (level_of line.before) (level_of line.number))
-call_by line done locals word.Mutex = Some (call.CreateLock lock.Mutex false)
-call_by line done locals word.Section = Some (call.CreateLock lock.Section false)
-call_by line done locals (word.Object kind) = Some (call.Create kind (routine_by line) line.number (environ_by line))
-call_by line done locals word.Submit = Some (call.SubmitWork (object_at line locals))
-call_by line done locals word.Simple = Some (call.SubmitSimple (routine_by line) line.number (environ_by line))
-call_by line done locals word.SetTimer = Some (call.SetTimer (object_at line locals) line.due (small_of line.before) (small_of line.number))
-call_by line done locals word.SetTimerEx = Some (call.SetTimerEx (object_at line locals) line.due (small_of line.before) (small_of line.number))
-call_by line done locals word.IsTimerSet = Some (call.IsTimerSet (object_at line locals))
-call_by line done locals word.SetWait = Some (call.SetWait (object_at line locals) (armed_by line) line.due)
-call_by line done locals word.StartIo = Some (call.StartIo (object_at line locals))
-call_by line done locals word.CancelIo = Some (call.CancelIo (object_at line locals))
-call_by line done locals word.IssueIo = Some (call.IssueIo (object_at line locals))
-call_by line done locals word.CompleteIo = Some (call.CompleteIo (number_at line.object locals) (small_of line.before) line.number)
-call_by line done locals word.CompleteNext = Some (call.CompleteNext (object_at line locals) (small_of line.before) line.number)
-call_by line done locals word.Let = Some (call.Create line.kind (routine_by line) line.number (environ_by line))
-call_by line done locals word.Close = Some (call.CloseObject (kind_of_sort line.object.sort) (object_at line locals))
-call_by line done locals word.BeginWait = Some (call.BeginWait (kind_of_sort line.object.sort) (object_at line locals) line.cancels)
-call_by line done locals word.CloseMembers = Some (call.BeginClose (record { 0 = line.group }) line.cancels line.number)
-call_by line done locals word.CloseGroup = Some (call.CloseGroup (record { 0 = line.group }))
-call_by line done locals word.ClosePool = Some (call.ClosePool (record { 0 = line.pool }))
-call_by line done locals word.SetMaximum = Some (call.SetMaximum (record { 0 = line.pool }) (small_of line.number))
-call_by line done locals word.SetMinimum = Some (call.SetMinimum (record { 0 = line.pool }) (small_of line.number))
-call_by line done locals word.SetEvent = Some (call.SetEvent (kernel_of line))
-call_by line done locals word.ResetEvent = Some (call.ResetEvent (kernel_of line))
-call_by line done locals word.ReleaseSemaphore = Some (call.ReleaseSemaphore (kernel_of line) (units_of line.number))
-call_by line done locals word.Release = Some (call.ReleaseLock (lock_of_sort line.kernel.sort) (kernel_of line))
-call_by line done locals word.Acquire = Some (call.BeginAcquire (kernel_of line))
-call_by line done locals word.TryAcquire = Some (call.TryAcquire (kernel_of line))
-call_by line done locals word.Advance = Some (call.Advance (ticks_of line.number))
-call_by line done locals word.MayRunLong = Some call.MayRunLong
-call_by line done locals word.Disassociate = Some call.Disassociate
-call_by line done locals word.OnReturn = Some (call.OnReturn (action_of_sort line.kernel.sort) (kernel_of line) (units_of line.number))
-call_by line done locals _ = None
+-- the next call of a line, in a part that has come so far
+abbrev pub call_by : Line → Progress → Word → Option Call
+call_by line at word.Pool = Some (pool_call line at.done)
+call_by line at word.Group = Some call.CreateGroup
+call_by line at word.Event = Some (call.CreateEvent line.manual line.signalled)
+call_by line at word.Semaphore = Some (call.CreateSemaphore (level_of line.before) (level_of line.number))
+call_by line at word.Mutex = Some (call.CreateLock lock.Mutex false)
+call_by line at word.Section = Some (call.CreateLock lock.Section false)
+call_by line at (word.Object kind) = Some (call.Create kind (routine_by line) line.number (environ_by line))
+call_by line at word.Submit = Some (call.SubmitWork (object_at line at))
+call_by line at word.Simple = Some (call.SubmitSimple (routine_by line) line.number (environ_by line))
+call_by line at word.SetTimer = Some (call.SetTimer (object_at line at) line.due (small_of line.before) (small_of line.number))
+call_by line at word.SetTimerEx = Some (call.SetTimerEx (object_at line at) line.due (small_of line.before) (small_of line.number))
+call_by line at word.IsTimerSet = Some (call.IsTimerSet (object_at line at))
+call_by line at word.SetWait = Some (call.SetWait (object_at line at) (armed_by line) line.due)
+call_by line at word.StartIo = Some (call.StartIo (object_at line at))
+call_by line at word.CancelIo = Some (call.CancelIo (object_at line at))
+call_by line at word.IssueIo = Some (call.IssueIo (object_at line at))
+call_by line at word.CompleteIo = Some (call.CompleteIo (operation_at line at) (small_of line.before) line.number)
+call_by line at word.CompleteNext = Some (call.CompleteNext (object_at line at) (small_of line.before) line.number)
+call_by line at word.Let = Some (call.Create line.kind (routine_by line) line.number (environ_by line))
+call_by line at word.Close = Some (call.CloseObject (kind_of_sort line.object.sort) (object_at line at))
+call_by line at word.BeginWait = Some (call.BeginWait (kind_of_sort line.object.sort) (object_at line at) line.cancels)
+call_by line at word.CloseMembers = Some (call.BeginClose (record { 0 = line.group }) line.cancels line.number)
+call_by line at word.CloseGroup = Some (call.CloseGroup (record { 0 = line.group }))
+call_by line at word.ClosePool = Some (call.ClosePool (record { 0 = line.pool }))
+call_by line at word.SetMaximum = Some (call.SetMaximum (record { 0 = line.pool }) (small_of line.number))
+call_by line at word.SetMinimum = Some (call.SetMinimum (record { 0 = line.pool }) (small_of line.number))
+call_by line at word.SetEvent = Some (call.SetEvent (kernel_of line))
+call_by line at word.ResetEvent = Some (call.ResetEvent (kernel_of line))
+call_by line at word.ReleaseSemaphore = Some (call.ReleaseSemaphore (kernel_of line) (units_of line.number))
+call_by line at word.Release = Some (call.ReleaseLock (lock_of_sort line.kernel.sort) (kernel_of line))
+call_by line at word.Acquire = Some (call.BeginAcquire (kernel_of line))
+call_by line at word.TryAcquire = Some (call.TryAcquire (kernel_of line))
+call_by line at word.Advance = Some (call.Advance (ticks_of line.number))
+call_by line at word.MayRunLong = Some call.MayRunLong
+call_by line at word.Disassociate = Some call.Disassociate
+call_by line at word.OnReturn = Some (call.OnReturn (action_of_sort line.kernel.sort) (kernel_of line) (units_of line.number))
+call_by line at _ = None
 
-abbrev pub call_of : Line → ℕ → List ℕ → Option Call
-call_of line done locals = call_by line done locals line.head
+abbrev pub call_of : Line → Progress → Option Call
+call_of line at = call_by line at line.head
 
 -- whether a kernel object is asked before the line's operation
 abbrev pub is_asked : Condition → Bool

@@ -13,7 +13,6 @@ use Rattle.tp_script.specs.declared.routines.Progress.{Progress}
 use Rattle.tp_script.specs.declared.script.Opening.{Opening}
 use Rattle.tp_script.specs.declared.script.Opening.TheVariants as opening
 use Rattle.tp_script.specs.Calls.{acts, begins_wait, call_of, calls_in, is_asked, is_met, poll_by}
-use Rattle.tp_script.specs.Scripts.{is_local}
 
 -- whether a part of the script begins with such a line
 abbrev pub opens : Opening → Word → Bool
@@ -54,7 +53,7 @@ polls line at = is_asked line.condition && not at.met
 
 -- the call that follows: that poll, the end of a wait that was begun, or the next call of the line
 abbrev pub call_at : Line → Progress → Option Call
-call_at line at = if polls line at then poll_by line.condition else (if at.ending then Some call.End else call_of line at.done at.locals)
+call_at line at = if polls line at then poll_by line.condition else (if at.ending then Some call.End else call_of line at)
 
 abbrev pub next_at : List Line → Part → Progress → Option Call
 next_at lines part at = option_and_then (λ line. call_at line at) (line_at lines part at.op)
@@ -70,18 +69,28 @@ abbrev pub is_refusal : Answer → Bool
 is_refusal (answer.Refused refusal) = true
 is_refusal _ = false
 
--- what a name that is made by the call stands for, or 0 where it was refused
-abbrev pub number_in : Answer → ℕ
-number_in (answer.Made number) = number
-number_in (answer.Operation callback) = callback
-number_in _ = 0
+-- what the name of an object that is made by the call stands for, or 0 where it was refused
+abbrev pub made_in : Answer → ℕ
+made_in (answer.Made number) = number
+made_in _ = 0
 
--- the numbers of the local names with one more
+-- what the name of an operation that is issued by the call stands for, or 0 where it was refused
+abbrev pub operation_in : Answer → ℕ
+operation_in (answer.Operation callback) = callback
+operation_in _ = 0
+
+-- what local names stand for, with one more
 abbrev pub with_local : List ℕ → ℕ → ℕ → List ℕ
-with_local locals made number = if nat_le 1 made && nat_le made 32 then slice_set locals (made - 1) number else locals
+with_local names made number = if nat_le 1 made && nat_le made 32 then slice_set names (made - 1) number else names
+
+-- the local name that a line makes is that of an object or that of an operation
+abbrev pub noted_by : ℕ → Progress → Answer → Word → Progress
+noted_by made at answer word.Let = record at { locals = with_local at.locals made (made_in answer) }
+noted_by made at answer word.IssueIo = record at { operations = with_local at.operations made (operation_in answer) }
+noted_by made at answer _ = at
 
 abbrev pub noted : Line → Progress → Answer → Progress
-noted line at answer = if is_local line.head then record at { locals = with_local at.locals line.made (number_in answer) } else at
+noted line at answer = noted_by line.made at answer line.head
 
 -- behind one call of a line, which it makes so often; before the next one its condition is asked anew
 abbrev pub stepped : ℕ → Progress → Progress
@@ -114,7 +123,7 @@ progress_after lines part at answer = after_at (line_at lines part at.op) at ans
 
 -- where a part begins
 abbrev pub first_progress : Progress
-first_progress = record { op = 0; done = 0; met = false; ending = false; locals = replicate 32 0 }
+first_progress = record { op = 0; done = 0; met = false; ending = false; locals = replicate 32 0; operations = replicate 32 0 }
 
 -- the call of a part that follows after its calls had these answers, or none
 abbrev pub next_call : List Line → Part → List Answer → Option Call

@@ -3,22 +3,23 @@
 ghost use Rattle.std.specs.Prelude.{◌≡◌, ◌≤◌, ◌<◌, ◌^◌, IfSome};
 ghost use Rattle.tp_base.specs.Ranges.{IsCallInRange, IsDueInRange, IsEnvironInRange, IsNamedInRange, IsRoutineInRange, count_most};
 ghost use Rattle.tp_base.specs.Timers.{clock_end};
-ghost use Rattle.tp_script.specs.Calls.{IsOfPart, action_of_sort, acts, armed_by, begins_wait, call_of, calls_in, environ_by, id_of, is_asked, is_met, kernel_of, kind_of_sort, level_of, local_number, lock_of_sort, maximum_of, number_at, object_at, poll_by, pool_call, routine_by, small_of, ticks_of, units_of};
+ghost use Rattle.tp_script.specs.Calls.{IsOfPart, action_of_sort, acts, armed_by, begins_wait, call_of, calls_in, environ_by, id_of, is_asked, is_met, kernel_of, kind_of_sort, level_of, local_number, lock_of_sort, maximum_of, number_at, object_at, operation_at, poll_by, pool_call, routine_by, small_of, ticks_of, units_of};
 
+use crate::routines::Progress;
 use script_lines::{Condition, Line, Meaning, Sort, Word};
 use tp_base::answers::{ActionKind, Answer};
 use tp_base::calls::{CLOCK_END, Call, Environ, Kind, Lock};
 use tp_base::ids::{GroupId, KernelId, ObjectId, PoolId, RoutineId};
 
-/// The next call of a line, of which `done` were made, where the local names stand for these numbers.
+/// The next call of a line, in a part that has come so far.
 #[inline(always)]
-pub fn call_of(line: &Line, done: u32, locals: &[u64; 32]) -> Option<Call>
-    ensures value { result ≡ call_of line.now done locals.now }
+pub fn call_of(line: &Line, at: &Progress) -> Option<Call>
+    ensures value { result ≡ call_of line.now at.now }
     ensures in_range { IfSome result IsCallInRange }
     ensures of_part { IfSome result IsOfPart }
 {
     match line.head {
-        Word::Pool => Some(pool_call(*line, done)),
+        Word::Pool => Some(pool_call(*line, at.done)),
         Word::Group => Some(Call::CreateGroup),
         Word::Event => Some(Call::CreateEvent {
             manual: line.manual,
@@ -43,7 +44,7 @@ pub fn call_of(line: &Line, done: u32, locals: &[u64; 32]) -> Option<Call>
             env: environ_by(*line),
         }),
         Word::Submit => Some(Call::SubmitWork {
-            object: object_at(*line, locals),
+            object: object_at(*line, at),
         }),
         Word::Simple => Some(Call::SubmitSimple {
             routine: routine_by(*line),
@@ -51,41 +52,41 @@ pub fn call_of(line: &Line, done: u32, locals: &[u64; 32]) -> Option<Call>
             env: environ_by(*line),
         }),
         Word::SetTimer => Some(Call::SetTimer {
-            object: object_at(*line, locals),
+            object: object_at(*line, at),
             due: same_due(line.due),
             period: small_of(line.before),
             window: small_of(line.number),
         }),
         Word::SetTimerEx => Some(Call::SetTimerEx {
-            object: object_at(*line, locals),
+            object: object_at(*line, at),
             due: same_due(line.due),
             period: small_of(line.before),
             window: small_of(line.number),
         }),
         Word::IsTimerSet => Some(Call::IsTimerSet {
-            object: object_at(*line, locals),
+            object: object_at(*line, at),
         }),
         Word::SetWait => Some(Call::SetWait {
-            object: object_at(*line, locals),
+            object: object_at(*line, at),
             kernel: armed_by(*line),
             timeout: same_due(line.due),
         }),
         Word::StartIo => Some(Call::StartIo {
-            object: object_at(*line, locals),
+            object: object_at(*line, at),
         }),
         Word::CancelIo => Some(Call::CancelIo {
-            object: object_at(*line, locals),
+            object: object_at(*line, at),
         }),
         Word::IssueIo => Some(Call::IssueIo {
-            object: object_at(*line, locals),
+            object: object_at(*line, at),
         }),
         Word::CompleteIo => Some(Call::CompleteIo {
-            callback: number_at(line.object, locals),
+            callback: operation_at(*line, at),
             error: small_of(line.before),
             bytes: same(line.number),
         }),
         Word::CompleteNext => Some(Call::CompleteNext {
-            object: object_at(*line, locals),
+            object: object_at(*line, at),
             error: small_of(line.before),
             bytes: same(line.number),
         }),
@@ -97,11 +98,11 @@ pub fn call_of(line: &Line, done: u32, locals: &[u64; 32]) -> Option<Call>
         }),
         Word::Close => Some(Call::CloseObject {
             kind: kind_of_sort(line.object.sort),
-            object: object_at(*line, locals),
+            object: object_at(*line, at),
         }),
         Word::BeginWait => Some(Call::BeginWait {
             kind: kind_of_sort(line.object.sort),
-            object: object_at(*line, locals),
+            object: object_at(*line, at),
             cancel: line.cancels,
         }),
         Word::CloseMembers => Some(Call::BeginClose {
@@ -355,23 +356,37 @@ fn armed_by(line: Line) -> Option<KernelId>
     }
 }
 
-fn object_at(line: Line, locals: &[u64; 32]) -> ObjectId
-    ensures value { result ≡ object_at line locals.now }
+fn object_at(line: Line, at: &Progress) -> ObjectId
+    ensures value { result ≡ object_at line at.now }
     ensures in_range { result.0 ≤ 65535 }
 {
-    let number = number_at(line.object, locals);
+    let number = number_at(line.object, &at.locals);
     ObjectId(if number <= 65_535 { number as u32 } else { 0 })
 }
 
-/// The number that a name stands for, where the local names stand for these.
-pub fn number_at(meaning: Meaning, locals: &[u64; 32]) -> u64
-    ensures { result ≡ number_at meaning locals.now }
+// Each name of an operation is local.
+fn operation_at(line: Line, at: &Progress) -> u64
+    ensures { result ≡ operation_at line at.now }
 {
-    let number = meaning.number;
-    if !meaning.local {
-        u64::from(number)
-    } else if 1 <= number && number <= 32 {
-        locals[usize::from(number - 1)]
+    local_number(line.object.number, &at.operations)
+}
+
+/// The number that a name stands for, where the local names of its sort stand for these.
+pub fn number_at(meaning: Meaning, names: &[u64; 32]) -> u64
+    ensures { result ≡ number_at meaning names.now }
+{
+    if meaning.local {
+        local_number(meaning.number, names)
+    } else {
+        u64::from(meaning.number)
+    }
+}
+
+fn local_number(number: u16, names: &[u64; 32]) -> u64
+    ensures { result ≡ local_number number names.now }
+{
+    if 1 <= number && number <= 32 {
+        names[usize::from(number - 1)]
     } else {
         0
     }

@@ -204,7 +204,7 @@ fn sort_made(head: Word, kind: Kind) -> Sort
 }
 
 /// Whether the new name of a line is of its section alone.
-pub fn is_local(head: Word) -> bool
+fn is_local(head: Word) -> bool
     ensures { result ≡ is_local head }
 {
     matches!(head, Word::Let | Word::IssueIo)

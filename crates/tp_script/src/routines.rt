@@ -29,8 +29,10 @@ pub struct Progress {
     pub met: bool,
     /// The wait of that place is begun.
     pub ending: bool,
-    /// What the part's local names stand for, in their order.
+    /// The numbers of the objects that local names of the part stand for, each at its name's place among the local names.
     pub locals: [u64; 32],
+    /// The numbers of the callbacks of the operations that local names of the part stand for, likewise.
+    pub operations: [u64; 32],
 }
 
 impl Progress {
@@ -44,6 +46,7 @@ impl Progress {
             met: false,
             ending: false,
             locals: [0; 32],
+            operations: [0; 32],
         }
     }
 }

@@ -10,17 +10,17 @@ ghost use Rattle.script_lines.specs.Texts.{Spot};
 ghost use Rattle.tp_script.specs.Answers.{IsScriptFault, IsThat};
 ghost use Rattle.tp_script.specs.Parsed.{Parsed, parsed};
 ghost use Rattle.tp_script.specs.Parts.{group_line, has_marks, line_of, marks_behind, may_refuse, memory_line, object_line, operations, part_marks};
-ghost use Rattle.tp_script.specs.Scripts.{IsFaultIn, IsParsed, IsScript, is_local};
+ghost use Rattle.tp_script.specs.Scripts.{IsFaultIn, IsParsed, IsScript};
 ghost use Rattle.tp_base.specs.Ranges.{IsCallInRange};
 ghost use Rattle.tp_script.specs.Calls.{IsOfPart};
 ghost use Rattle.tp_script.specs.Machines.{HasFewClients, NeverWaitsAtFirst};
-ghost use Rattle.tp_script.specs.Nexts.{call_at, clients_of, line_after, line_at, number_in, numbered_place, opens, place_of, places_behind, polled, polls, stepped, waited};
+ghost use Rattle.tp_script.specs.Nexts.{call_at, clients_of, line_after, line_at, made_in, noted, numbered_place, operation_in, opens, place_of, places_behind, polled, polls, stepped, waited, with_local};
 
 use crate::calls::{acts, begins_wait, call_of, calls_in, is_asked, is_met, poll_by};
 use crate::fault::ScriptFault;
 use crate::marks::{Mark, marks_between};
 use crate::numbered::{Among, NumberedLine, marks_of, numbers_among, played_lines};
-use crate::parse::{is_local, read_lines};
+use crate::parse::read_lines;
 use crate::routines::{Part, Progress, Routines};
 use script_lines::{Line, Word};
 use std::alloc::{AllocError, Global};
@@ -348,7 +348,7 @@ fn call_at(line: &Line, at: &Progress) -> Option<Call>
     } else if at.ending {
         Some(Call::End)
     } else {
-        call_of(line, at.done, &at.locals)
+        call_of(line, at)
     }
 }
 
@@ -370,10 +370,7 @@ fn line_after(line: &Line, at: &mut Progress, answer: Answer)
     } else if begins_wait(line.head) {
         waited(calls_in(*line), at, answer);
     } else {
-        // A name that the line makes stands for the number in the answer.
-        if is_local(line.head) && 1 <= line.made && line.made <= 32 {
-            at.locals[usize::from(line.made - 1)] = number_in(answer);
-        }
+        noted(line, at, answer);
         stepped(calls_in(*line), at);
     }
 }
@@ -421,11 +418,39 @@ fn stepped(calls: u32, at: &mut Progress)
     at.met = false;
 }
 
-fn number_in(answer: Answer) -> u64
-    ensures { result ≡ number_in answer }
+// A name that the line makes stands for the number in the answer: a new object's, or that of an operation's callback.
+fn noted(line: &Line, at: &mut Progress, answer: Answer)
+    ensures { at.new ≡ noted line.now at.old answer }
+{
+    match line.head {
+        Word::Let => name(&mut at.locals, line.made, made_in(answer)),
+        Word::IssueIo => name(&mut at.operations, line.made, operation_in(answer)),
+        _ => {}
+    }
+}
+
+// One more local name stands for a number.
+fn name(names: &mut [u64; 32], made: u16, number: u64)
+    ensures { names.new ≡ with_local names.old made number }
+{
+    if 1 <= made && made <= 32 {
+        names[usize::from(made - 1)] = number;
+    }
+}
+
+fn made_in(answer: Answer) -> u64
+    ensures { result ≡ made_in answer }
 {
     match answer {
         Answer::Made { number } => u64::from(number),
+        _ => 0,
+    }
+}
+
+fn operation_in(answer: Answer) -> u64
+    ensures { result ≡ operation_in answer }
+{
+    match answer {
         Answer::Operation { callback } => callback,
         _ => 0,
     }
