@@ -1,3 +1,4 @@
+pub mod Closed
 pub mod Firsts
 pub mod InPlace
 pub mod Joining

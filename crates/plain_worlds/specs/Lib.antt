@@ -1,4 +1,5 @@
 pub mod Plain
+pub mod Closing
 pub mod View
 pub mod Firing
 pub mod Keys

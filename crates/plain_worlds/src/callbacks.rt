@@ -1,10 +1,11 @@
 //! Callbacks: what one is, and what becomes of it.
 
-ghost use Rattle.std.specs.Prelude.{◌≡◌, OnOk};
+ghost use Rattle.std.specs.Prelude.{◌≡◌, OnOk, find};
+ghost use Rattle.std.specs.Option.{option_copied};
 ghost use Rattle.tp_base.specs.Actions.{filled as filled_of};
 ghost use Rattle.tp_model.specs.Actions.{asking as asking_of};
 ghost use Rattle.tp_model.specs.Changes.{changed, loosened as loosened_of, marked as marked_of, operated as operated_of, replaced, taken as taken_of, with_callback, without_run};
-ghost use Rattle.tp_model.specs.Counts.{is_live as is_live_status, is_pending as is_pending_status, is_running as is_running_status};
+ghost use Rattle.tp_model.specs.Counts.{has_number, is_live as is_live_status, is_pending as is_pending_status, is_running as is_running_status};
 
 use crate::rows::Rows;
 use std::alloc::AllocError;
@@ -30,6 +31,13 @@ pub(crate) fn is_live(callback: &CallbackRow) -> bool
     ensures { result ≡ is_live_status callback.now.status }
 {
     !matches!(callback.status, Status::Returned | Status::Cancelled)
+}
+
+/// The callback of a number.
+pub(crate) fn callback_in(callbacks: &[CallbackRow], number: u64) -> Option<&CallbackRow>
+    ensures { option_copied result ≡ find (has_number number) callbacks.now }
+{
+    callbacks.iter().find(|callback| callback.number == number)
 }
 
 /// The callback with another status.

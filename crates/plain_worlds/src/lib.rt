@@ -7,9 +7,12 @@ ghost use Rattle.std.specs.Prelude.{◌≡◌, ◌+◌, IfOk};
 ghost use Rattle.tp_base.specs.Ranges.{AreLimitsInRange};
 ghost use Rattle.tp_model.specs.Support.Allowed.{IsAllowed};
 ghost use Rattle.tp_model.specs.World.{opening};
+ghost use Rattle.plain_worlds.specs.Closing.{closed_plain};
 ghost use Rattle.plain_worlds.specs.Plain.{moved};
 
+pub use closing::place_of;
 pub use keys::keys_tell_apart;
+use renamed_worlds::closed_worlds_are_sound;
 use rows::Rows;
 use std::alloc::{AllocError, Global};
 use std::marker::Model;
@@ -22,6 +25,7 @@ mod actor_reads;
 mod actors;
 mod callbacks;
 mod changes;
+mod closing;
 mod counting;
 mod firing;
 mod firing_counts;
@@ -94,6 +98,18 @@ impl PlainWorld {
         rows.change(alloc, change)?;
         rows.forget();
         Ok(PlainWorld { rows, made })
+    }
+
+    /// The same world with its names forgotten: its callbacks are numbered from 1 in their order, and its waits cover
+    /// nothing that isn't outstanding any more. So worlds that differ in names alone are one when closed.
+    pub fn close(self) -> PlainWorld
+        ensures { result ≡ closed_plain self }
+    {
+        closed_worlds_are_sound();
+        let mut rows = self.rows;
+        rows.close();
+        let made = rows.count_callbacks();
+        PlainWorld { rows, made }
     }
 
     /// Its callbacks, by rising number.

@@ -12,7 +12,7 @@ use crate::callbacks::is_pending;
 use crate::objects::object_row;
 use crate::reads::is_attached_to;
 use crate::rows::Rows;
-use crate::waits::{WaitRow, begun, is_outstanding};
+use crate::waits::{WaitRow, begun, is_held};
 use tp_base::ids::{PoolId, Who};
 use tp_base::rows::{CallbackRow, WaitTarget};
 use world_reads::Progress;
@@ -22,10 +22,7 @@ impl Rows {
     fn is_held(&self, target: WaitTarget, number: u64) -> bool
         ensures { result ≡ is_held self.now target number }
     {
-        match self.callback(number) {
-            Some(callback) => is_outstanding(target, callback),
-            None => false,
-        }
+        is_held(&self.callbacks, target, number)
     }
 
     // The first of these numbers whose callback is outstanding for what a wait is for.

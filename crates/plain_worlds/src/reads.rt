@@ -11,7 +11,7 @@ ghost use Rattle.tp_model.specs.Groups.{has_simple, is_group};
 ghost use Rattle.tp_model.specs.Stalled.{is_free};
 ghost use Rattle.tp_model.specs.Waits.{count_outstanding};
 
-use crate::callbacks::{is_live, is_pending, is_running};
+use crate::callbacks::{callback_in, is_live, is_pending, is_running};
 use crate::rows::{Rows, numbered};
 use crate::waits::{is_outstanding, is_same_actor};
 use tp_base::calls::Kind;
@@ -291,9 +291,7 @@ impl Rows {
     pub(crate) fn callback(&self, number: u64) -> Option<&CallbackRow>
         ensures { option_copied result ≡ callback_of self.now number }
     {
-        self.callbacks
-            .iter()
-            .find(|callback| callback.number == number)
+        callback_in(&self.callbacks, number)
     }
 
     pub(crate) fn callback_after(&self, number: u64) -> Option<&CallbackRow>

@@ -5,8 +5,9 @@ ghost use Rattle.std.specs.Option.{option_copied};
 ghost use Rattle.tp_base.specs.Actors.{is_same_actor as same_actor};
 ghost use Rattle.tp_model.specs.Changes.{changed, give_notice as give_notice_of, given_up_after, kernels_left, notified, without_wait};
 ghost use Rattle.tp_model.specs.Waits.{cancel_where, covered_of, is_cancelled_by, is_covered_by, is_of as is_of_target, is_outstanding_for, target_of as target_of_awaited, wait_of};
+ghost use Rattle.plain_worlds.specs.Closing.{is_held_among};
 
-use crate::callbacks::{is_pending, is_running};
+use crate::callbacks::{callback_in, is_pending, is_running};
 use crate::groups::notices_of;
 use crate::rows::Rows;
 use std::alloc::{AllocError, Global};
@@ -111,6 +112,16 @@ pub(crate) fn is_outstanding(target: WaitTarget, callback: &CallbackRow) -> bool
         Status::Returned | Status::Cancelled => false,
     };
     is_of(target, callback) && is_held
+}
+
+/// Whether the callback of a number is outstanding for what a wait is for.
+pub(crate) fn is_held(callbacks: &[CallbackRow], target: WaitTarget, number: u64) -> bool
+    ensures { result ≡ is_held_among callbacks.now target number }
+{
+    match callback_in(callbacks, number) {
+        Some(callback) => is_outstanding(target, callback),
+        None => false,
+    }
 }
 
 /// Whether a wait covers a callback.

@@ -11,6 +11,7 @@ pub mod Places
 pub mod Tidied
 pub mod Behind
 pub mod Closing
+pub mod ClosedSound
 pub mod Nameless
 pub mod Exchange
 mod Examples

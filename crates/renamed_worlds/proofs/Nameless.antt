@@ -25,7 +25,7 @@ use Rattle.tp_model.proofs.Calls.{plan_forget, plan_safe}
 use Rattle.tp_model.proofs.Forgetting.{changed_forget, forget_sound}
 use Rattle.tp_model.proofs.Refusals.{false_true}
 use Rattle.renamed_worlds.specs.Closed.{closed, closed_call, closed_next, named_by_place, number_in, place_of, settled, tidied, ComesToOne}
-use Rattle.renamed_worlds.specs.Renamed.{renamed_answer, renamed_call, renamed_change, renamed_plan, GoesOn, IsNaming, IsNumberedOn}
+use Rattle.renamed_worlds.specs.Renamed.{renamed, renamed_answer, renamed_call, renamed_change, renamed_plan, GoesOn, IsNaming, IsNumberedOn}
 use Rattle.renamed_worlds.proofs.Behind.{tidied_behind}
 use Rattle.renamed_worlds.proofs.Changes.{changed_renamed}
 use Rattle.renamed_worlds.proofs.Closing.{closed_back, closed_renamed}
@@ -112,14 +112,17 @@ module _ (next_number : ℕ) (w : World) (s : IsSound next_number w) where
     safe_left : IsSafeChange next_number (forget w) who call (renamed_answer name told) (renamed_change name how)
     safe_left = subst (IsSafe next_number (forget w) who call) (plan_forget next_number room w who call s ∙ made) (plan_safe next_number room (forget w) who call f)
 
-    -- the world behind a change, closed, is what is behind the change of the closed world
+    -- the world behind a change is what is behind the change of the closed world, up to names and to what waits covered
+    pub renamed_behind : tidied (changed w (renamed_change name how)) ≡ tidied (renamed name (changed (closed w) how))
+    renamed_behind =
+        ap settled (sym (changed_forget next_number w (renamed_change name how) s safe.allowed))
+        ∙ sym (tidied_behind next_number (forget w) who call (renamed_answer name told) f (renamed_change name how) safe_left)
+        ∙ ap (λ v. tidied (changed v (renamed_change name how))) (sym (closed_back next_number w s))
+        ∙ ap tidied (changed_renamed name naming (closed w) how (numbered_on how safe.allowed))
+
+    -- and once it is closed, it is that
     pub changed_closed : closed (changed w (renamed_change name how)) ≡ closed (changed (closed w) how)
-    changed_closed =
-        ap (λ v. named_by_place (settled v)) (sym (changed_forget next_number w (renamed_change name how) s safe.allowed))
-        ∙ ap named_by_place (sym (tidied_behind next_number (forget w) who call (renamed_answer name told) f (renamed_change name how) safe_left))
-        ∙ ap (λ v. closed (changed v (renamed_change name how))) (sym (closed_back next_number w s))
-        ∙ ap closed (changed_renamed name naming (closed w) how (numbered_on how safe.allowed))
-        ∙ closed_renamed name naming (changed (closed w) how)
+    changed_closed = ap named_by_place renamed_behind ∙ closed_renamed name naming (changed (closed w) how)
 
 -- ---- two worlds
 

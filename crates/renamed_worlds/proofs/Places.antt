@@ -31,6 +31,34 @@ at_naming next_number cs rising = record { apart = apart; none = refl }
     apart (suc m) zero e = absurd (omega (arith, e, from_above 1 next_number cs rising m))
     apart (suc m) (suc n) e = ap suc (from_apart 1 next_number cs rising m n e)
 
+-- and places along the numbers
+
+from_rises : (low next_number : ℕ) (cs : List CallbackRow) → IsRising low next_number cs → (m n : ℕ) → m < n → number_from cs next_number m < number_from cs next_number n
+from_rises low next_number [] rising m n less = omega (arith, less)
+from_rises low next_number (c ∷ cs) rising zero zero less = absurd (omega (arith, less))
+from_rises low next_number (c ∷ cs) rising zero (suc n) less = omega (arith, from_above (c.number + 1) next_number cs rising.1 n)
+from_rises low next_number (c ∷ cs) rising (suc m) zero less = absurd (omega (arith, less))
+from_rises low next_number (c ∷ cs) rising (suc m) (suc n) less = from_rises (c.number + 1) next_number cs rising.1 m n (omega (arith, less))
+
+pub at_rises : (next_number : ℕ) (cs : List CallbackRow) → IsRising 1 next_number cs → (m n : ℕ) → m < n → number_at cs next_number m < number_at cs next_number n
+at_rises next_number cs rising zero zero less = absurd (omega (arith, less))
+at_rises next_number cs rising zero (suc n) less = omega (arith, from_above 1 next_number cs rising n)
+at_rises next_number cs rising (suc m) zero less = absurd (omega (arith, less))
+at_rises next_number cs rising (suc m) (suc n) less = from_rises 1 next_number cs rising m n (omega (arith, less))
+
+from_before : (low next_number : ℕ) (cs : List CallbackRow) → IsRising low next_number cs → (m n : ℕ) → number_from cs next_number m < number_from cs next_number n → m < n
+from_before low next_number [] rising m n less = omega (arith, less)
+from_before low next_number (c ∷ cs) rising zero zero less = absurd (omega (arith, less))
+from_before low next_number (c ∷ cs) rising zero (suc n) less = omega arith
+from_before low next_number (c ∷ cs) rising (suc m) zero less = absurd (omega (arith, less, from_above (c.number + 1) next_number cs rising.1 m))
+from_before low next_number (c ∷ cs) rising (suc m) (suc n) less = omega (arith, from_before (c.number + 1) next_number cs rising.1 m n less)
+
+pub at_before : (next_number : ℕ) (cs : List CallbackRow) → IsRising 1 next_number cs → (m n : ℕ) → number_at cs next_number m < number_at cs next_number n → m < n
+at_before next_number cs rising zero zero less = absurd (omega (arith, less))
+at_before next_number cs rising zero (suc n) less = omega arith
+at_before next_number cs rising (suc m) zero less = absurd (omega (arith, less))
+at_before next_number cs rising (suc m) (suc n) less = omega (arith, from_before 1 next_number cs rising m n less)
+
 -- ---- behind the last one they go on from the next number
 
 from_behind : (next_number : ℕ) (cs : List CallbackRow) (i place : ℕ) → place ≡ length cs + i → number_from cs next_number place ≡ next_number + i

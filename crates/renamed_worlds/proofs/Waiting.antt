@@ -16,7 +16,7 @@ use Rattle.renamed_worlds.proofs.Queries.{callback_renamed, count_renamed, staff
 module _ (name : ℕ → ℕ) where
   -- ---- of what a callback is
 
-  of_renamed : (target : WaitTarget) (c : CallbackRow) → is_of target (renamed_callback name c) ≡ is_of target c
+  pub of_renamed : (target : WaitTarget) (c : CallbackRow) → is_of target (renamed_callback name c) ≡ is_of target c
   of_renamed (Object object) c = refl
   of_renamed (Group group) c = refl
   of_renamed (Kernel kernel) c = refl

@@ -9,6 +9,7 @@
 //!
 //! ```text
 //! numbers_are_names();        // from here on plans and changes of renamed worlds are known
+//! closed_worlds_are_sound();  // and that a closed world is like those that calls lead to
 //! closed_worlds_tell_all();   // and that of two worlds that are closed to one the same comes, up to numbers
 //! workers_are_names();        // and plans and changes of worlds where two workers change places
 //! ```
@@ -23,6 +24,7 @@ ghost use Rattle.tp_base.specs.declared.plans.Change.{Change};
 ghost use Rattle.tp_base.specs.declared.plans.Plan.TheVariants.{Does};
 ghost use Rattle.tp_model.specs.Changes.{changed};
 ghost use Rattle.tp_model.specs.Support.Allowed.{IsAllowed};
+ghost use Rattle.tp_model.specs.Support.Remembered.{forget};
 ghost use Rattle.tp_model.specs.Support.Sound.{IsSound};
 ghost use Rattle.tp_model.specs.Table.{plan_at};
 ghost use Rattle.tp_model.specs.World.{World};
@@ -35,6 +37,13 @@ ghost use Rattle.renamed_worlds.specs.Renamed.{renamed, renamed_call, renamed_ch
 pub fn numbers_are_names()
     ensures plans { (name : ℕ → ℕ) → IsNaming name → (w : World) (next_number room : ℕ) (who : Who) (call : Call) → plan_at (renamed name w) (name next_number) room who (renamed_call name call) ≡ renamed_plan name (plan_at w next_number room who call) }
     ensures changes { (name : ℕ → ℕ) → IsNaming name → (w : World) (how : Change) → IsNumberedOn name how → changed (renamed name w) (renamed_change name how) ≡ renamed name (changed w how) }
+{}
+
+/// A closed world is one like those that calls lead to: it is as sound as the world, with the number behind its callbacks for the
+/// next one, and all its callbacks live. It does nothing: who calls it knows this.
+pub fn closed_worlds_are_sound()
+    ensures sound { (next_number : ℕ) (w : World) → IsSound next_number w → IsSound (closed_next w) (closed w) }
+    ensures living { (w : World) → forget (closed w) ≡ closed w }
 {}
 
 /// What a call comes to is told by the closed world, up to numbers, and so is the world behind it, once that is closed. So of
