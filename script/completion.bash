@@ -12,9 +12,9 @@ _tpool_options() {
     show) echo "$plays --script" ;;
     run) echo "$plays --seed --threads --json --summary" ;;
     runs) echo "$plays --threads --json --keep --fail-on" ;;
-    explore) echo '--workers --states' ;;
+    explore) echo '--workers --states --each' ;;
     big) echo "$plays --json" ;;
-    '') echo "$plays --states --seed --threads --json --summary --keep --fail-on --script --version --help" ;;
+    '') echo "$plays --states --each --seed --threads --json --summary --keep --fail-on --script --version --help" ;;
     esac
 }
 

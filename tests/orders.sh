@@ -48,6 +48,21 @@ bad $'w1 take -> taken 1 o1 r1 x0 plain\nend 7\nbad use-after-free ctx line 4 w1
 none own-close-waited
 bad $'c2 end -> stalled\nend 12\nbad stalled wait line 12 c2\nwaits c2 line 12\nwaits w1 line 6\n' cycle
 
+# --- Each fault with a shortest order
+each_of() {
+    local status
+    explored "$@" --workers 2 --each
+    status=$?
+    grep -a -e '^end ' -e '^bad ' -e '^none$' "$room/order"
+    return "$status"
+}
+input=
+try 'each fault, the shortest first' 10 $'end 13\nbad refused released line 10 w1\nend 14\nbad use-after-free text line 6 w1\nend 14\nbad freed-in-use text line 19 c2\n' '' each_of guide
+try 'each fault where a refusal is none' 10 $'end 14\nbad use-after-free text line 6 w1\nend 14\nbad freed-in-use text line 18 c2\n' '' each_of guide-late-try
+try 'each fault, of which there is none' 0 $'none\n' '' each_of guide-mended
+shown_each() { "$program" explore --workers 2 --each <"$here/tests/orders/guide.script" | "$tpool" show | grep -c -e '^ 1  c1   create-group' -e '^    c2   \* free text' -e '^bad '; }
+try 'each fault, shown' 0 $'9\n' '' shown_each
+
 # --- Each kind of fault, and what is left
 # faulty TEXT SCRIPT: what a script's shortest bad order is told to be.
 faulty_line() { "$program" explore --workers 1 | grep -a '^bad '; }
@@ -103,17 +118,20 @@ compare_drawn() {
         scripts=$((scripts + 1))
         printf '%s' "$text" >"$room/drawn"
         verdict=$("$program" explore --workers 2 <"$room/drawn")
+        "$program" explore --workers 2 --each <"$room/drawn" >"$room/each"
         entries=$(sed -n 's/^end //p' <<<"$verdict")
         [[ -z $entries ]] || bad=$((bad + 1))
         [[ -n $entries || $verdict == none$'\n'* ]] || echo "$scripts: $verdict"
         # The first fault of a run is told at its entry, which is no earlier than the end of a shortest bad order.
-        some=$(run_drawn | awk -v entries="${entries:-0}" '/^end / { is_first = 1 } /^fault / && is_first { is_first = 0; faults++; if (!entries || $NF < entries) early++ } END { print faults + 0, early + 0 }')
+        run_drawn >"$room/runs"
+        some=$(awk -v entries="${entries:-0}" '/^end / { is_first = 1 } /^fault / && is_first { is_first = 0; faults++; if (!entries || $NF < entries) early++ } END { print faults + 0, early + 0 }' "$room/runs")
         faults=$((faults + ${some% *}))
         ((${some#* } == 0)) || echo "$scripts: ${some#* } of 100 runs have a fault too early: ${entries:-none}"
+        awk -v number="$scripts" '!/^(bad|fault) / { next } { kind = $0; sub(/^[a-z]+ /, "", kind); sub(/ [cw][0-9]+( entry [0-9]+)?$/, "", kind) } /^bad / { told[kind] = 1; next } !(kind in told) { print number ": not told: " kind }' "$room/each" "$room/runs"
     done
     echo "$scripts scripts"
     ((bad > scripts / 4 && bad < scripts && faults > scripts)) || echo "$bad bad, $faults faults"
 }
 awk -v seed=11 -v count=200 -f "$here/tests/draw_orders.awk" >"$room/drawn_orders"
 input=$(<"$room/drawn_orders")
-try 'the runs of drawn scripts are among their orders' 0 $'200 scripts\n' '' compare_drawn
+try 'the runs of drawn scripts are among their orders, and their faults among those of each' 0 $'200 scripts\n' '' compare_drawn

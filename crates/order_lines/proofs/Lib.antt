@@ -1,2 +1,4 @@
 mod Behind
+mod Each
+mod Rising
 mod Writing

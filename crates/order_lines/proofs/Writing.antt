@@ -1,5 +1,5 @@
 -- What is written of what a search answers.
-use Rattle.std.proofs.Common.{◌≡◌, ◌≢◌, ◌⊎◌, ℕ, ◌+◌, ◌-◌, ◌≤◌, ◌++◌, Bool, true, false, List, [], ◌∷◌, length, Result, Ok, Err, IfOk, refl, sym, ap, ◌∙◌, subst, arith, inl, inr}
+use Rattle.std.proofs.Common.{◌≡◌, ◌≢◌, ℕ, ◌-◌, ◌≤◌, ◌++◌, Bool, true, false, List, [], ◌∷◌, length, map, slice_index_or, refl, sym, ap, ◌∙◌, subst, arith, inl, inr}
 use Rattle.std.proofs.lemmas.Bool.{false≢true}
 use Rattle.std.proofs.lemmas.List.{append_assoc}
 use Rattle.breadth_first.specs.Answers.{GivesUpFor}
@@ -13,19 +13,14 @@ use Rattle.tp_explore.specs.Faults.{faults_of}
 use Rattle.tp_explore.specs.declared.fault.Fault.{Fault}
 use Rattle.tp_explore.specs.Keys.{board_code}
 use Rattle.tp_explore.specs.Legal.{IsRoomy}
-use Rattle.tp_explore.specs.Replayed.{IsReplayed}
 use Rattle.tp_explore.specs.Scenes.{first_scene, scene_after, IsOrder, Scene}
-use Rattle.tp_explore.specs.Scripts.{watched}
 use Rattle.tp_explore.specs.Story.{happened_of, told_of, waiting_of}
 use Rattle.tp_explore.specs.Watched.{Watched}
+use Rattle.tp_explore.specs.declared.told.Told.{Told}
 use Rattle.tp_model.specs.History.{IsLegal}
 use Rattle.tp_model.specs.Laws.{KeepsLaws}
 use Rattle.tp_report.specs.Histories.{history_text}
-use Rattle.tp_script.specs.Parsed.{Parsed}
-use Rattle.order_lines.specs.Explored.{bad_text, gave_up_text, none_text, states_line, story_text, HasNoRoom, IsExplored, IsReason, WritesBad, WritesGaveUp, WritesNone}
-use Rattle.order_lines.specs.declared.explored.Explored.{Explored}
-use Rattle.order_lines.specs.declared.explored.Found.{Found}
-use Rattle.order_lines.specs.declared.explored.Found.TheVariants as found
+use Rattle.order_lines.specs.Explored.{bad_text, none_text, states_line, story_text, IsFirst, IsReason, WritesBad, WritesNone}
 use Rattle.order_lines.specs.declared.explored.TheConstants.{DEEPEST, EVENTS}
 
 -- as many moves as entries
@@ -35,27 +30,13 @@ made_length k limits s [] (e ∷ rest) made = absurd made
 made_length k limits s (by ∷ moves) [] made = absurd made
 made_length k limits s (by ∷ moves) (e ∷ rest) made = omega (arith, made_length k limits (scene_after k.given s e) moves rest made.1)
 
-module _ (script : Parsed) (text : List ℕ) (limits : Limits) where
-  abbrev k : Watched
-  k = watched script
-
-  -- what was written is of what was found
-  told_as : (most : ℕ) (e : Explored) (f : Found) → e.found ≡ f → IsExplored script text limits most e.text.items f → IsExplored script text limits most e.text.items e.found
-  told_as most e f is told = subst (λ g. IsExplored script text limits most e.text.items g) (sym is) told
-
-  pub none_written : {E : Type 0} (most states steps : ℕ) (result : Result Explored E) → Explores k limits (NoneBad states)
-      → IfOk result (λ e. e.text.items ≡ none_text states steps) → IfOk result (λ e. e.found ≡ found.None) → IfOk result (λ e. IsExplored script text limits most e.text.items e.found)
-  none_written most states steps (Err error) none written is = written
-  none_written most states steps (Ok e) none written is = told_as most e found.None is (record { states = states; steps = steps; none = none; output_is = written })
-
-  pub gave_up_written : {E : Type 0} (most states deep : ℕ) (result : Result Explored E) → Explores k limits (GaveUpAt states deep) → IsReason k limits most deep
-      → IfOk result (λ e. e.text.items ≡ gave_up_text states deep) → IfOk result (λ e. e.found ≡ found.GaveUp) → IfOk result (λ e. IsExplored script text limits most e.text.items e.found)
-  gave_up_written most states deep (Err error) none reason written is = written
-  gave_up_written most states deep (Ok e) none reason written is = told_as most e found.GaveUp is (record { states = states; deep = deep; none_so_deep = none; reason = reason; output_is = written })
-
+module _ (k : Watched) (text : List ℕ) (limits : Limits) where
   pub reason_of : (most states deep : ℕ) → GivesUpFor (rules_of k limits board_code) most DEEPEST (GaveUpAt states deep) → IsReason k limits most deep
   reason_of most states deep (inl more) = inl more
   reason_of most states deep (inr as_deep) = inr (inl as_deep)
+
+  pub none_written : (output : List ℕ) (states steps met : ℕ) → Explores k limits (NoneBad met) → output ≡ none_text states steps → WritesNone k limits output
+  none_written output states steps met none written = record { states = states; steps = steps; none = none; output_is = written }
 
   -- ---- a shortest bad order
 
@@ -103,25 +84,41 @@ module _ (script : Parsed) (text : List ℕ) (limits : Limits) where
     is_history l new same_limits only =
         only history (subst (λ m. IsOrder k.given m history) (sym same_limits) short.order) (subst (λ m. IsMadeBy k.given m path history) (sym same_limits) short.made)
 
+    -- its story tells of a fault
+    pub some_told : (h : List Entry) (told : List Told) → h ≡ history → told ≡ told_of k limits h → ((b : List Entry) → map (λ (t : Told). t.fault) (told_of k limits b) ≡ faults_of k limits b) → told ≢ []
+    some_told h told same told_is tells none =
+        short.bad (sym (tells history) ∙ ap (λ b. map (λ (t : Told). t.fault) (told_of k limits b)) (sym same) ∙ ap (λ ts. map (λ (t : Told). t.fault) ts) (sym told_is ∙ none))
+
     -- a machine on which its moves were played has it as its history
-    pub bad_written : (states : ℕ) (r : Recording) (output : List ℕ) → r.limits ≡ limits → r.capacity ≡ EVENTS → r.history ≡ history
+    pub bad_written : (states : ℕ) (fault : Fault) (r : Recording) (output : List ℕ) → r.limits ≡ limits → r.capacity ≡ EVENTS → r.history ≡ history
         → IsLegal r.limits r.capacity r.history → KeepsLaws r.limits r.history
+        → IsFirst fault (faults_of k limits r.history)
         → output ≡ (history_text r.limits r.capacity r.history ++ story_text text (told_of k limits r.history) (waiting_of k limits r.history) (happened_of k limits r.history)) ++ states_line states
-        → WritesBad text k limits output
-    bad_written states r output same_limits same_capacity same legal laws written = record {
-      history = history;
-      states = states;
-      first_bad = record {
-        order = short.order;
-        bad = short.bad;
-        shortest = short.shortest;
-        legal = subst (λ l. IsLegal l EVENTS history) same_limits (subst (λ (c : ℕ). IsLegal r.limits c history) same_capacity (subst (λ h. IsLegal r.limits r.capacity h) same legal));
-        laws = subst (λ l. KeepsLaws l history) same_limits (subst (λ h. KeepsLaws r.limits h) same laws);
-      };
-      output_is =
-          written
-          ∙ append_assoc (history_text r.limits r.capacity r.history) (story_text text (told_of k limits r.history) (waiting_of k limits r.history) (happened_of k limits r.history)) (states_line states)
-          ∙ ap (λ l. history_text l r.capacity r.history ++ (story_text text (told_of k limits r.history) (waiting_of k limits r.history) (happened_of k limits r.history) ++ states_line states)) same_limits
-          ∙ ap (λ (c : ℕ). history_text limits c r.history ++ (story_text text (told_of k limits r.history) (waiting_of k limits r.history) (happened_of k limits r.history) ++ states_line states)) same_capacity
-          ∙ ap (λ h. bad_text text k limits h states) same;
-    }
+        → (writes : WritesBad text k limits output) × writes.block.fault ≡ fault
+    bad_written states fault r output same_limits same_capacity same legal laws first written = (
+      record {
+        block = record { history = history; fault = fault; states = states };
+        is_block = record {
+          first_bad = record {
+            order = short.order;
+            bad = short.bad;
+            shortest = short.shortest;
+            legal = subst (λ l. IsLegal l EVENTS history) same_limits (subst (λ (c : ℕ). IsLegal r.limits c history) same_capacity (subst (λ h. IsLegal r.limits r.capacity h) same legal));
+            laws = subst (λ l. KeepsLaws l history) same_limits (subst (λ h. KeepsLaws r.limits h) same laws);
+          };
+          first = subst (λ h. IsFirst fault (faults_of k limits h)) same first;
+        };
+        output_is =
+            written
+            ∙ append_assoc (history_text r.limits r.capacity r.history) (story_text text (told_of k limits r.history) (waiting_of k limits r.history) (happened_of k limits r.history)) (states_line states)
+            ∙ ap (λ l. history_text l r.capacity r.history ++ (story_text text (told_of k limits r.history) (waiting_of k limits r.history) (happened_of k limits r.history) ++ states_line states)) same_limits
+            ∙ ap (λ (c : ℕ). history_text limits c r.history ++ (story_text text (told_of k limits r.history) (waiting_of k limits r.history) (happened_of k limits r.history) ++ states_line states)) same_capacity
+            ∙ ap (λ h. bad_text text k limits h states) same;
+      },
+      refl,
+    )
+
+-- the first fault that is told
+pub first_is : (told : List Told) (none : Told) → told ≢ [] → IsFirst (slice_index_or told 0 none).fault (map (λ (t : Told). t.fault) told)
+first_is [] none some = absurd (some refl)
+first_is (t ∷ told) none some = (map (λ (u : Told). u.fault) told, refl)

@@ -5,7 +5,9 @@ use Rattle.breadth_first.specs.declared.Answer.TheVariants.{None as NoneBad, Gav
 use Rattle.tp_base.specs.declared.answers.Entry.{Entry}
 use Rattle.tp_base.specs.declared.limits.Limits.{Limits}
 use Rattle.tp_explore.specs.Boards.{rules_of}
+use Rattle.tp_explore.specs.declared.fault.Fault.{Fault}
 use Rattle.tp_explore.specs.Explored.{Explores, IsBad}
+use Rattle.tp_explore.specs.Faults.{faults_of}
 use Rattle.tp_explore.specs.Keys.{board_code}
 use Rattle.tp_explore.specs.Legal.{IsRoomy}
 use Rattle.tp_explore.specs.Scenes.{IsOrder}
@@ -21,6 +23,8 @@ use Rattle.tp_report.specs.Histories.{history_text}
 use Rattle.tp_script.specs.Parsed.{Parsed}
 use Rattle.order_lines.specs.Lines.{bad_line, fault_line, mark_line, waits_line}
 use Rattle.order_lines.specs.declared.explored.Found.{Found}
+use Rattle.order_lines.specs.declared.explored.Searched.{Searched}
+use Rattle.order_lines.specs.declared.explored.Searched.TheVariants as searched
 use Rattle.order_lines.specs.declared.explored.Found.TheVariants.{None, Bad, GaveUp}
 use Rattle.order_lines.specs.declared.explored.TheConstants.{DEEPEST, EVENTS}
 
@@ -72,6 +76,20 @@ pub record IsFirstBad (k : Watched) (limits : Limits) (history : List Entry) : T
   pub legal : IsLegal limits EVENTS history
   pub laws : KeepsLaws limits history
 
+-- it is the first of these
+abbrev pub IsFirst : Fault → List Fault → Type 0
+IsFirst fault faults = (rest : List Fault) × faults ≡ fault ∷ rest
+
+-- such an order, its first fault, and how many states were met until it was found
+pub record Block : Type 0 where
+  pub history : List Entry
+  pub fault : Fault
+  pub states : ℕ
+
+pub record IsBlock (k : Watched) (limits : Limits) (block : Block) : Type 0 where
+  pub first_bad : IsFirstBad k limits block.history
+  pub first : IsFirst block.fault (faults_of k limits block.history)
+
 -- a shortest bad order is one more entry than this, and has no room in a history
 pub record HasNoRoom (k : Watched) (limits : Limits) (deep : ℕ) : Type 0 where
   pub history : List Entry
@@ -92,10 +110,9 @@ pub record WritesNone (k : Watched) (limits : Limits) (output : List ℕ) : Type
   pub output_is : output ≡ none_text states steps
 
 pub record WritesBad (text : List ℕ) (k : Watched) (limits : Limits) (output : List ℕ) : Type 0 where
-  pub history : List Entry
-  pub states : ℕ
-  pub first_bad : IsFirstBad k limits history
-  pub output_is : output ≡ bad_text text k limits history states
+  pub block : Block
+  pub is_block : IsBlock k limits block
+  pub output_is : output ≡ bad_text text k limits block.history block.states
 
 pub record WritesGaveUp (k : Watched) (limits : Limits) (most : ℕ) (output : List ℕ) : Type 0 where
   pub states : ℕ
@@ -103,6 +120,12 @@ pub record WritesGaveUp (k : Watched) (limits : Limits) (most : ℕ) (output : L
   pub none_so_deep : Explores k limits (GaveUpAt states deep)
   pub reason : IsReason k limits most deep
   pub output_is : output ≡ gave_up_text states deep
+
+-- this was found of the orders of what is watched, where no more states than this may be met, and is to be written
+abbrev pub IsSearched : Watched → List ℕ → Limits → ℕ → Searched → Type 0
+IsSearched k text limits most (searched.None output) = WritesNone k limits output.items
+IsSearched k text limits most (searched.GaveUp output) = WritesGaveUp k limits most output.items
+IsSearched k text limits most (searched.Bad output fault) = (writes : WritesBad text k limits output.items) × writes.block.fault ≡ fault
 
 -- of the orders of a script, where no more states than this may be met, this was found and written
 abbrev pub IsExplored : Parsed → List ℕ → Limits → ℕ → List ℕ → Found → Type 0

@@ -1,11 +1,13 @@
 //! All orders of a script, and what is written of them.
 
-ghost use Rattle.std.specs.Prelude.{◌≡◌, ◌+◌, ◌++◌, ◌<◌, ◌≤◌, ◌^◌, ℕ, List, IfOk, OnOk, flat_map, length};
+ghost use Rattle.std.specs.Prelude.{◌≡◌, ◌≢◌, ◌+◌, ◌++◌, ◌<◌, ◌≤◌, ◌^◌, ℕ, List, [], IfOk, OnOk, flat_map, length, map};
 ghost use Rattle.tp_base.specs.Ranges.{AreLimitsInRange};
 ghost use Rattle.tp_base.specs.declared.answers.Entry.{Entry};
 ghost use Rattle.tp_explore.specs.Explored.{IsShortest};
-ghost use Rattle.tp_explore.specs.Scripts.{watched};
-ghost use Rattle.order_lines.specs.Explored.{begun_text, faults_text, first_told, gave_up_text, happened_text, none_text, states_line, story_text, IsExplored};
+ghost use Rattle.tp_explore.specs.Scripts.{watched_but};
+ghost use Rattle.tp_explore.specs.declared.told.Told.{Told};
+ghost use Rattle.order_lines.specs.EachExplored.{IsEachExplored};
+ghost use Rattle.order_lines.specs.Explored.{begun_text, faults_text, first_told, gave_up_text, happened_text, none_text, states_line, story_text, IsExplored, IsFirst, IsSearched};
 
 use crate::lines::{append_bad, append_fault, append_mark, append_number, append_waits};
 use breadth_first::{Answer, Measures};
@@ -14,7 +16,8 @@ use recorded::Recorded;
 use std::alloc::{AllocError, Global};
 use tp_base::limits::Limits;
 use tp_explore::{
-    Begun, Happened, Moving, Story, Told, explore, replay, stories_tell_all_faults, story,
+    Begun, Fault, Happened, Moving, Story, Told, explore, passing_over_leaves_the_others, replay,
+    stories_tell_all_faults, story_but,
 };
 use tp_model::legal_keeps_laws;
 use tp_report::{Written, into_history};
@@ -25,6 +28,9 @@ pub const EVENTS: u32 = 65_536;
 
 /// How many entries an order has at most that is looked at.
 pub const DEEPEST: u32 = 60_000;
+
+/// How many faults are told at most.
+pub const BLOCKS: u32 = 65_536;
 
 /// What was found of the orders of a script.
 #[derive(Clone, Copy)]
@@ -44,6 +50,17 @@ pub struct Explored {
     pub found: Found,
 }
 
+/// What a search found of the orders of a script, and what is to be written of that.
+#[derive(Drop)]
+enum Searched {
+    /// None has a fault.
+    None(Vec<u8>),
+    /// None of those that were gone through has one.
+    GaveUp(Vec<u8>),
+    /// A shortest has this fault first.
+    Bad { text: Vec<u8>, fault: Fault },
+}
+
 /// Goes through every order of a script on machines with these limits, and answers what is to be written of them.
 ///
 /// `text` is that of the script. No more than `most` states are met, at least 1. An `AllocError` comes where memory is
@@ -60,19 +77,103 @@ pub fn explore_script<B: Recorded, V: Moving>(
     requires most { 1 ≤ most }
     ensures { IfOk result (λ explored. IsExplored script.now text.now limits most explored.text.items explored.found) }
 {
-    let mut measures = Measures::new();
-    match explore::<V>(alloc, script, limits, most, DEEPEST, &mut measures)? {
-        Answer::None { .. } => write_none(alloc, &measures),
-        Answer::GaveUp { states, deep } => write_gave_up(alloc, u64::from(states), u64::from(deep)),
-        Answer::Bad(path) => {
-            write_bad::<B, V>(alloc, script, text, limits, &path, measures.states)
+    let (text, found) = match seek::<B, V>(alloc, script, &[], text, limits, most)? {
+        Searched::None(text) => (text, Found::None),
+        Searched::GaveUp(text) => (text, Found::GaveUp),
+        Searched::Bad { text, .. } => (text, Found::Bad),
+    };
+    Ok(Explored { text, found })
+}
+
+/// Goes through every order of a script again and again, and answers what is to be written of all faults that some order
+/// has: for each a shortest order that has it, the shortest first.
+///
+/// An order that has several is told for the first of them that was not told before. The words are those of
+/// `explore_script`; no more than `most` states are met in each search.
+pub fn explore_each<B: Recorded, V: Moving>(
+    alloc: Global,
+    script: &Script,
+    text: &[u8],
+    limits: Limits,
+    most: u32,
+) -> Result<Explored, AllocError>
+    requires text { length text.now + 1 < 2 ^ 32 }
+    requires in_range { AreLimitsInRange limits }
+    requires most { 1 ≤ most }
+    ensures { IfOk result (λ explored. IsEachExplored script.now text.now limits most explored.text.items explored.found) }
+{
+    passing_over_leaves_the_others();
+    let mut output = Vec::new(alloc);
+    let mut told = Vec::new(alloc);
+    for _ in 0..BLOCKS {
+        match seek::<B, V>(alloc, script, &told, text, limits, most)? {
+            Searched::Bad { text: block, fault } => {
+                output.extend_from_slice(&block)?;
+                told.push(fault)?;
+            }
+            Searched::None(ending) => {
+                if told.is_empty() {
+                    return Ok(Explored {
+                        text: ending,
+                        found: Found::None,
+                    });
+                }
+                return Ok(Explored {
+                    text: output,
+                    found: Found::Bad,
+                });
+            }
+            Searched::GaveUp(ending) => {
+                output.extend_from_slice(&ending)?;
+                return Ok(Explored {
+                    text: output,
+                    found: Found::GaveUp,
+                });
+            }
         }
+    }
+    Ok(Explored {
+        text: output,
+        found: Found::Bad,
+    })
+}
+
+// Goes through every order of a script, where some faults are passed over.
+fn seek<B: Recorded, V: Moving>(
+    alloc: Global,
+    script: &Script,
+    passed: &[Fault],
+    text: &[u8],
+    limits: Limits,
+    most: u32,
+) -> Result<Searched, AllocError>
+    requires text { length text.now + 1 < 2 ^ 32 }
+    requires in_range { AreLimitsInRange limits }
+    requires most { 1 ≤ most }
+    ensures { IfOk result (IsSearched (watched_but passed.now script.now) text.now limits most) }
+{
+    let mut measures = Measures::new();
+    match explore::<V>(alloc, script, passed, limits, most, DEEPEST, &mut measures)? {
+        Answer::None { .. } => Ok(Searched::None(write_none(alloc, &measures)?)),
+        Answer::GaveUp { states, deep } => Ok(Searched::GaveUp(write_gave_up(
+            alloc,
+            u64::from(states),
+            u64::from(deep),
+        )?)),
+        Answer::Bad(path) => write_bad::<B, V>(
+            alloc,
+            script,
+            passed,
+            text,
+            limits,
+            &path,
+            measures.states,
+        ),
     }
 }
 
-fn write_none(alloc: Global, measures: &Measures) -> Result<Explored, AllocError>
-    ensures text { IfOk result (λ explored. explored.text.items ≡ none_text measures.now.states measures.now.steps) }
-    ensures found { IfOk result (λ explored. explored.found ≡ Found.None) }
+fn write_none(alloc: Global, measures: &Measures) -> Result<Vec<u8>, AllocError>
+    ensures { IfOk result (λ text. text.items ≡ none_text measures.now.states measures.now.steps) }
 {
     let mut text = Vec::new(alloc);
     text.extend_from_slice(b"none\n")?;
@@ -80,13 +181,11 @@ fn write_none(alloc: Global, measures: &Measures) -> Result<Explored, AllocError
     text.extend_from_slice(b"steps ")?;
     append_number(measures.steps, &mut text)?;
     text.push(b'\n')?;
-    let found = Found::None;
-    Ok(Explored { text, found })
+    Ok(text)
 }
 
-fn write_gave_up(alloc: Global, states: u64, deep: u64) -> Result<Explored, AllocError>
-    ensures text { IfOk result (λ explored. explored.text.items ≡ gave_up_text states deep) }
-    ensures found { IfOk result (λ explored. explored.found ≡ Found.GaveUp) }
+fn write_gave_up(alloc: Global, states: u64, deep: u64) -> Result<Vec<u8>, AllocError>
+    ensures { IfOk result (λ text. text.items ≡ gave_up_text states deep) }
 {
     let mut text = Vec::new(alloc);
     text.extend_from_slice(b"gave up at ")?;
@@ -94,41 +193,49 @@ fn write_gave_up(alloc: Global, states: u64, deep: u64) -> Result<Explored, Allo
     text.extend_from_slice(b" states\ndeep ")?;
     append_number(deep, &mut text)?;
     text.push(b'\n')?;
-    let found = Found::GaveUp;
-    Ok(Explored { text, found })
+    Ok(text)
 }
 
 // What is written of the order that these moves make. Where a history has no room for it, it was given up.
 fn write_bad<B: Recorded, V: Moving>(
     alloc: Global,
     script: &Script,
+    passed: &[Fault],
     text: &[u8],
     limits: Limits,
     path: &[u32],
     states: u64,
-) -> Result<Explored, AllocError>
+) -> Result<Searched, AllocError>
     requires text { length text.now + 1 < 2 ^ 32 }
     requires in_range { AreLimitsInRange limits }
-    requires shortest { (history : List Entry) × IsShortest (watched script.now) limits path.now history }
-    ensures { (most : ℕ) → IfOk result (λ explored. IsExplored script.now text.now limits most explored.text.items explored.found) }
+    requires shortest { (history : List Entry) × IsShortest (watched_but passed.now script.now) limits path.now history }
+    ensures { (most : ℕ) → IfOk result (IsSearched (watched_but passed.now script.now) text.now limits most) }
 {
     legal_keeps_laws();
     stories_tell_all_faults();
     let mut book = Written::<Kept<B>>::open(alloc, limits, EVENTS)?;
     if !replay(alloc, &mut book, script, path)? {
-        return write_gave_up(alloc, states, (path.len() as u64).saturating_sub(1));
+        let ending = write_gave_up(alloc, states, (path.len() as u64).saturating_sub(1));
+        return Ok(Searched::GaveUp(ending?));
     }
     let (kept, history) = into_history(alloc, book)?;
     let _len = kept.len();
-    let story = story::<V>(alloc, script, limits, kept.entries())?;
+    let story = story_but::<V>(alloc, script, passed, limits, kept.entries())?;
+    let fault = first_fault(&story.told);
     let mut output = history;
     append_story(text, &story, &mut output)?;
     append_states(states, &mut output)?;
-    let found = Found::Bad;
-    Ok(Explored {
+    Ok(Searched::Bad {
         text: output,
-        found,
+        fault,
     })
+}
+
+fn first_fault(told: &[Told]) -> Fault
+    requires { told.now ≢ [] }
+    ensures { IsFirst result (map (λ (t : Told). t.fault) told.now) }
+{
+    told[0].fault
 }
 
 // Appends what stands behind a history: its first fault, who waits at a stall, and its marks.

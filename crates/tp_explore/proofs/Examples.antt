@@ -54,6 +54,7 @@ silent = record {
   line = λ part op. 3;
   marks = λ part at. [];
   all_marks = λ routine. [];
+  wants = λ fault. true;
 }
 
 -- the work object was never made, so its submission is refused

@@ -1,16 +1,25 @@
 pub mod Alike
 pub mod Ample
+pub mod Blind
+pub mod BlindFaults
 pub mod BoardsAlong
 pub mod BoardsKept
 pub mod BoardsRow
 pub mod BoardsShown
 pub mod BoardsTurns
+pub mod ClosedAlong
+pub mod ClosedMoves
+pub mod Closing
 pub mod Collected
+pub mod Naming
 mod Examples
 pub mod Freely
+pub mod Issued
 pub mod Leading
 pub mod Legal
+pub mod Passing
 pub mod Replaying
+pub mod SameFaults
 pub mod Searched
 pub mod Standing
 pub mod Telling

@@ -1,16 +1,18 @@
 -- What a search of the boards of a script answers.
-use Rattle.std.proofs.Common.{◌≡◌, ℕ}
+use Rattle.std.proofs.Common.{◌≡◌, ℕ, List}
 use Rattle.breadth_first.specs.Answers.{Answers, GivesUpFor}
 use Rattle.breadth_first.specs.declared.Answer.{Answer}
 use Rattle.tp_base.specs.declared.limits.Limits.{Limits}
 use Rattle.tp_script.specs.Parsed.{Parsed}
 use Rattle.tp_explore.specs.Boards.{rules_of}
+use Rattle.tp_explore.specs.declared.fault.Fault.{Fault}
 use Rattle.tp_explore.specs.Keys.{board_code}
-use Rattle.tp_explore.specs.Scripts.{watched}
+use Rattle.tp_explore.specs.Scripts.{watched_but}
 
-pub answers_alike : (script script2 : Parsed) (limits limits2 : Limits) (told : Answer) → script2 ≡ script → limits2 ≡ limits → Answers (rules_of (watched script2) limits2 board_code) told → Answers (rules_of (watched script) limits board_code) told
-answers_alike script script2 limits limits2 told e1 e2 is = rw (e1, e2) at is
+pub answers_alike : (script script2 : Parsed) (passed passed2 : List Fault) (limits limits2 : Limits) (told : Answer) → script2 ≡ script → passed2 ≡ passed → limits2 ≡ limits → Answers (rules_of (watched_but passed2 script2) limits2 board_code) told
+    → Answers (rules_of (watched_but passed script) limits board_code) told
+answers_alike script script2 passed passed2 limits limits2 told e1 e2 e3 is = rw (e1, e2, e3) at is
 
-pub gives_up_alike : (script script2 : Parsed) (limits limits2 : Limits) (most deepest : ℕ) (told : Answer) → script2 ≡ script → limits2 ≡ limits → GivesUpFor (rules_of (watched script2) limits2 board_code) most deepest told
-    → GivesUpFor (rules_of (watched script) limits board_code) most deepest told
-gives_up_alike script script2 limits limits2 most deepest told e1 e2 is = rw (e1, e2) at is
+pub gives_up_alike : (script script2 : Parsed) (passed passed2 : List Fault) (limits limits2 : Limits) (most deepest : ℕ) (told : Answer) → script2 ≡ script → passed2 ≡ passed → limits2 ≡ limits
+    → GivesUpFor (rules_of (watched_but passed2 script2) limits2 board_code) most deepest told → GivesUpFor (rules_of (watched_but passed script) limits board_code) most deepest told
+gives_up_alike script script2 passed passed2 limits limits2 most deepest told e1 e2 e3 is = rw (e1, e2, e3) at is

@@ -32,10 +32,10 @@ is_stage_code = record { tells = stage_code_tells }
 
 pub is_progress_code : IsCode progress_code
 is_progress_code = mapped_code
-    (λ (at : Progress). ((((at.op, at.done), at.met), at.ending), at.locals))
-    (λ q. record { op = q.0.0.0.0; done = q.0.0.0.1; met = q.0.0.1; ending = q.0.1; locals = q.1 })
+    (λ (at : Progress). (((((at.op, at.done), at.met), at.ending), at.locals), at.operations))
+    (λ q. record { op = q.0.0.0.0.0; done = q.0.0.0.0.1; met = q.0.0.0.1; ending = q.0.0.1; locals = q.0.1; operations = q.1 })
     (λ at. refl)
-    (pair_code (pair_code (pair_code (pair_code number_code number_code) flag_code) flag_code) is_names_code)
+    (pair_code (pair_code (pair_code (pair_code (pair_code number_code number_code) flag_code) flag_code) is_names_code) is_names_code)
 
 pub is_place_code : IsCode place_code
 is_place_code = mapped_code

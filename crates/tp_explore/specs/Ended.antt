@@ -1,6 +1,6 @@
--- What an entry makes and ends.
+-- What an entry makes, brings and ends.
 use Rattle.std.specs.Prelude.{List, ◌++◌, Bool, ◌&&◌, ◌||◌, ◌==◌, not, if◌then◌else◌}
-use Rattle.std.specs.List.{fold}
+use Rattle.std.specs.List.{filter, fold}
 use Rattle.tp_base.specs.declared.answers.Entry.{Entry}
 use Rattle.tp_base.specs.declared.ids.Who.{Who}
 use Rattle.tp_base.specs.declared.limits.Limits.{Limits}
@@ -25,12 +25,12 @@ abbrev pub goes_on : Place → Place → Entry → Bool
 goes_on before after e = is_taken e.answer || not (before.at.op == after.at.op)
 
 module _ (k : Watched) (limits : Limits) where
-  -- what is noted behind an entry, and the faults that it brings in the world behind it
+  -- what is noted behind an entry, and the faults that it brings in the world behind it, as far as they are looked for
   abbrev pub noted_by_entry : Passage → Noted → Noted
   noted_by_entry p noted = fold behind (noted_at k noted p.before p.after p.entry) (deeds k limits p.before p.after p.entry)
 
   abbrev pub brought : World → Passage → Noted → List Fault
-  brought w p noted =
+  brought w p noted = filter k.wants (
       answer_faults k noted w p.entry.who p.before p.entry.answer
       ++ deed_faults w (noted_at k noted p.before p.after p.entry) (deeds k limits p.before p.after p.entry)
-      ++ left_faults w (noted_by_entry p noted).lines
+      ++ left_faults w (noted_by_entry p noted).lines)

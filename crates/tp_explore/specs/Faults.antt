@@ -189,12 +189,12 @@ module _ (k : Watched) where
     abbrev pub noted_between : Scene → Scene → Noted → Entry → Noted
     noted_between s t noted e = fold behind (noted_at noted (s.places e.who) (t.places e.who) e) (deeds limits (s.places e.who) (t.places e.who) e)
 
-    -- the faults that it brings: those of its answer, then of its marks, then of what is left
+    -- the faults that it brings, as far as they are looked for: those of its answer, then of its marks, then of what is left
     abbrev pub faults_between : Scene → Scene → Noted → Entry → List Fault
-    faults_between s t noted e =
+    faults_between s t noted e = filter k.wants (
         answer_faults noted t.world e.who (s.places e.who) e.answer
         ++ deed_faults t.world (noted_at noted (s.places e.who) (t.places e.who) e) (deeds limits (s.places e.who) (t.places e.who) e)
-        ++ left_faults t.world (noted_between s t noted e).lines
+        ++ left_faults t.world (noted_between s t noted e).lines)
 
     -- ---- a history
 

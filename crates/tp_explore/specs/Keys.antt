@@ -29,7 +29,7 @@ abbrev pub names_code : List ℕ → List ℕ
 names_code names = number (length names) ++ listed number (take (used names) names)
 
 abbrev pub progress_code : Progress → List ℕ
-progress_code at = number at.op ++ number at.done ++ flag at.met ++ flag at.ending ++ names_code at.locals
+progress_code at = number at.op ++ number at.done ++ flag at.met ++ flag at.ending ++ names_code at.locals ++ names_code at.operations
 
 abbrev pub place_code : Place → List ℕ
 place_code p = stage_code p.stage ++ flag p.waits ++ progress_code p.at ++ flag p.cut

@@ -1,6 +1,7 @@
 pub mod Alike
 pub mod AreKeys
 pub mod Boards
+pub mod Closing
 pub mod Ended
 pub mod Explored
 pub mod Faults
@@ -13,6 +14,7 @@ pub mod Noted
 pub mod Replayed
 pub mod Rising
 pub mod Rows
+pub mod SameFaults
 pub mod Scenes
 pub mod Scripts
 pub mod Stands

@@ -1,5 +1,5 @@
 -- What a script says besides its calls, as it was read.
-use Rattle.std.specs.Prelude.{ℕ, List, map}
+use Rattle.std.specs.Prelude.{ℕ, List, [], map, not}
 use Rattle.std.specs.Option.{unwrap_or}
 use Rattle.tp_base.specs.declared.ids.RoutineId.{RoutineId}
 use Rattle.tp_base.specs.declared.rows.WaitTarget.TheVariants.{Group, Object}
@@ -14,6 +14,8 @@ use Rattle.tp_script.specs.Nexts.{first_progress}
 use Rattle.tp_script.specs.Parsed.{Parsed}
 use Rattle.tp_script.specs.Parts.{line_of, marks_behind, may_refuse, next_in, part_marks, progress_in}
 use Rattle.part_places.specs.Places.{given}
+use Rattle.tp_explore.specs.declared.fault.Fault.{Fault}
+use Rattle.tp_explore.specs.SameFaults.{is_passed}
 use Rattle.tp_explore.specs.Watched.{Drop, Free, Mark, Marked, Quiet, Use, Watched}
 
 -- what a mark says where the local names stand for these numbers. One that stands for no object is 0
@@ -39,11 +41,17 @@ module _ (script : Parsed) where
   abbrev pub text_line : Part → ℕ → ℕ
   text_line part op = unwrap_or (line_of script part op) 0
 
-  abbrev pub watched : Watched
-  watched = record {
-    given = given next_in progress_in script;
-    may_refuse = may_refuse script;
-    line = text_line;
-    marks = said_at;
-    all_marks = said_by;
-  }
+-- to who looks for all faults but these
+abbrev pub watched_but : List Fault → Parsed → Watched
+watched_but passed script = record {
+  given = given next_in progress_in script;
+  may_refuse = may_refuse script;
+  line = text_line script;
+  marks = said_at script;
+  all_marks = said_by script;
+  wants = λ fault. not (is_passed passed fault);
+}
+
+-- and to who looks for all
+abbrev pub watched : Parsed → Watched
+watched script = watched_but [] script

@@ -8,12 +8,15 @@
 --                            text: what a part says once it has come there. At `op` 0 they are its first marks, and behind the
 --                            last operation those at its end. A local name stands for its number in `at.locals`, 0 for none yet
 --     all_marks routine      all the marks of a routine, in the order of the text, where local names stand for none
+--     wants fault            whether the fault is looked for; of others nothing is told
 -- Objects made behind client 1's declarations have their lines from `line`.
-use Rattle.std.specs.Prelude.{ℕ, Bool, false, List, [], Option, None, Some}
+use Rattle.std.specs.Prelude.{ℕ, Bool, false, not, List, [], Option, None, Some}
 use Rattle.tp_base.specs.declared.ids.RoutineId.{RoutineId}
 use Rattle.tp_script.specs.declared.routines.Part.{Part}
 use Rattle.tp_script.specs.declared.routines.Progress.{Progress}
 use Rattle.part_places.specs.Places.{Given}
+use Rattle.tp_explore.specs.declared.fault.Fault.{Fault}
+use Rattle.tp_explore.specs.SameFaults.{is_passed}
 pub use Rattle.tp_explore.specs.declared.mark.Mark.{Mark}
 pub use Rattle.tp_explore.specs.declared.mark.Mark.TheVariants.{Use, Drop, Free, Quiet}
 pub use Rattle.tp_explore.specs.declared.mark.Marked.{Marked}
@@ -24,6 +27,11 @@ pub record Watched : Type 0 where
   pub line : Part → ℕ → ℕ
   pub marks : Part → Progress → List Marked
   pub all_marks : RoutineId → List Marked
+  pub wants : Fault → Bool
+
+-- the same where all faults are looked for but these
+abbrev pub all_but : List Fault → Watched → Watched
+all_but passed k = record k { wants = λ fault. not (is_passed passed fault) }
 
 module _ (k : Watched) where
   -- the same of the part that an actor plays, if it plays one

@@ -12,7 +12,7 @@ ghost use Rattle.tp_explore.specs.Boards.{first_board, moved, planned, to_board}
 ghost use Rattle.tp_explore.specs.Keys.{board_code};
 ghost use Rattle.tp_explore.specs.Kept.{board_of};
 ghost use Rattle.tp_explore.specs.Scenes.{ample};
-ghost use Rattle.tp_explore.specs.Scripts.{watched};
+ghost use Rattle.tp_explore.specs.Scripts.{watched_but};
 ghost use Rattle.tp_explore.specs.Watched.{Watched};
 
 use crate::fault::Fault;
@@ -53,24 +53,27 @@ impl<V: Moving> Model for PlainBoard<V> {
     ghost view = { λ a. record { world = V.world_of a.world; made = V.made_of a.world; places = a.places; noted = a.notes } };
 }
 
-/// The boards of a script, and the moves between them.
+/// The boards of a script, and the moves between them, where some faults are passed over.
 #[derive(Drop)]
 pub struct Boards<'a, V: Moving> {
     script: &'a Script,
+    passed: &'a [Fault],
     limits: Limits,
     worlds: PhantomData<V>,
     ghost in_range: { AreLimitsInRange limits },
 }
 
 impl<'a, V: Moving> Boards<'a, V> {
-    /// The boards of a script, in machines with these limits.
-    pub fn new(script: &'a Script, limits: Limits) -> Boards<'a, V>
+    /// The boards of a script, in machines with these limits, for who passes over these faults.
+    pub fn new(script: &'a Script, passed: &'a [Fault], limits: Limits) -> Boards<'a, V>
         requires { AreLimitsInRange limits }
         ensures script { result.script.now ≡ script.now }
+        ensures passed { result.passed.now ≡ passed.now }
         ensures limits { result.limits ≡ limits }
     {
         Boards {
             script,
+            passed,
             limits,
             worlds: PhantomData,
         }
@@ -123,7 +126,7 @@ impl<'a, V: Moving> Boards<'a, V> {
         entry: Entry,
         world: V,
     ) -> Result<Next<PlainBoard<V>>, AllocError>
-        ensures { (w : World) (made : ℕ) → IfOk result (λ next. next ≡ moved (watched self.now.script.now) self.now.limits (board_of w made places.now notes.now) entry (V.world_of world) (V.made_of world)) }
+        ensures { (w : World) (made : ℕ) → IfOk result (λ next. next ≡ moved (watched_but self.now.passed.now self.now.script.now) self.now.limits (board_of w made places.now notes.now) entry (V.world_of world) (V.made_of world)) }
     {
         let before = places.at(&self.limits, entry.who);
         let places = places.behind(
@@ -144,6 +147,7 @@ impl<'a, V: Moving> Boards<'a, V> {
         let faults = enter(
             alloc,
             self.script,
+            self.passed,
             self.limits,
             &world,
             &passage,
@@ -169,7 +173,7 @@ impl<'a, V: Moving> Boards<'a, V> {
         plan: Plan,
     ) -> Result<Next<PlainBoard<V>>, AllocError>
         requires { (answer : Answer) (change : Change) → plan ≡ Plan.Does answer change → IsAllowed (V.made_of world.now + 1) (V.world_of world.now) change }
-        ensures { IfOk result (λ next. next ≡ planned (watched self.now.script.now) self.now.limits (board_of (V.world_of world.now) (V.made_of world.now) places.now notes.now) who call.now plan) }
+        ensures { IfOk result (λ next. next ≡ planned (watched_but self.now.passed.now self.now.script.now) self.now.limits (board_of (V.world_of world.now) (V.made_of world.now) places.now notes.now) who call.now plan) }
     {
         match plan {
             Plan::Refused(refusal) => {
@@ -195,7 +199,7 @@ impl<'a, V: Moving> Boards<'a, V> {
         who: Who,
         call: &Call,
     ) -> Result<Next<PlainBoard<V>>, AllocError>
-        ensures { IfOk result (λ next. next ≡ planned (watched self.now.script.now) self.now.limits (board_of (V.world_of world.now) (V.made_of world.now) places.now notes.now) who call.now (plan_at (V.world_of world.now) (V.made_of world.now + 1) ample who call.now)) }
+        ensures { IfOk result (λ next. next ≡ planned (watched_but self.now.passed.now self.now.script.now) self.now.limits (board_of (V.world_of world.now) (V.made_of world.now) places.now notes.now) who call.now (plan_at (V.world_of world.now) (V.made_of world.now + 1) ample who call.now)) }
     {
         // No order is so long.
         if world.made() >= 1 << 63 {
@@ -221,20 +225,20 @@ impl<'a, V: Moving> System for Boards<'a, V> {
     ghost use Rattle.breadth_first.specs.Same.{keeps_itself, same_itself, same_kept, IsSame};
     ghost use Rattle.tp_explore.specs.Boards.{rules_of};
     ghost use Rattle.tp_explore.specs.Keys.{board_code};
-    ghost use Rattle.tp_explore.specs.Scripts.{watched};
+    ghost use Rattle.tp_explore.specs.Scripts.{watched_but};
     ghost use Rattle.tp_explore.specs.AreKeys.{board_told};
 
     type State = PlainBoard<V>;
 
-    ghost rules = { λ a. rules_of (watched a.script.now) a.limits board_code };
+    ghost rules = { λ a. rules_of (watched_but a.passed.now a.script.now) a.limits board_code };
 
     ghost like = { IsSame };
 
     ghost like_itself = { same_itself };
 
-    ghost like_kept = { same_kept (λ a. rules_of (watched a.script.now) a.limits board_code) (λ a. board_told) };
+    ghost like_kept = { same_kept (λ a. rules_of (watched_but a.passed.now a.script.now) a.limits board_code) (λ a. board_told) };
 
-    ghost keeps = { keeps_itself (λ a. rules_of (watched a.script.now) a.limits board_code) };
+    ghost keeps = { keeps_itself (λ a. rules_of (watched_but a.passed.now a.script.now) a.limits board_code) };
 
     fn width(&self) -> u32 {
         width(&self.limits)

@@ -6,9 +6,10 @@ ghost use Rattle.tp_base.specs.Ranges.{AreLimitsInRange};
 ghost use Rattle.tp_explore.specs.Boards.{rules_of};
 ghost use Rattle.tp_explore.specs.Explored.{Explores};
 ghost use Rattle.tp_explore.specs.Keys.{board_code};
-ghost use Rattle.tp_explore.specs.Scripts.{watched};
+ghost use Rattle.tp_explore.specs.Scripts.{watched_but};
 
 use crate::boards::Boards;
+use crate::fault::Fault;
 use crate::searches_tell_of_orders;
 use crate::seen::Moving;
 use breadth_first::{Answer, Measures, search};
@@ -17,7 +18,8 @@ use tp_base::limits::Limits;
 use tp_script::Script;
 
 /// Goes through every order of a script on machines with these limits, and tells the moves that make a shortest order
-/// with a fault, or that no order has a fault, or, where it gives up, of how many entries at most none has one.
+/// with a fault, or that no order has a fault, or, where it gives up, of how many entries at most none has one. The
+/// faults of `passed` count as none.
 ///
 /// `V` keeps the worlds. `most` is how many boards it may meet, and `deepest` how many entries an order may have: it
 /// gives up only where orders lead to more boards, or at so many entries. `measures` has what it took added. An
@@ -25,6 +27,7 @@ use tp_script::Script;
 pub fn explore<V: Moving>(
     alloc: Global,
     script: &Script,
+    passed: &[Fault],
     limits: Limits,
     most: u32,
     deepest: u32,
@@ -32,10 +35,10 @@ pub fn explore<V: Moving>(
 ) -> Result<Answer, AllocError>
     requires most { 1 ≤ most }
     requires in_range { AreLimitsInRange limits }
-    ensures explores { IfOk result (Explores (watched script.now) limits) }
-    ensures gives_up { IfOk result (GivesUpFor (rules_of (watched script.now) limits board_code) most deepest) }
+    ensures explores { IfOk result (Explores (watched_but passed.now script.now) limits) }
+    ensures gives_up { IfOk result (GivesUpFor (rules_of (watched_but passed.now script.now) limits board_code) most deepest) }
 {
     searches_tell_of_orders();
-    let boards = Boards::<V>::new(script, limits);
+    let boards = Boards::<V>::new(script, passed, limits);
     search(alloc, &boards, most, deepest, measures)
 }

@@ -9,7 +9,9 @@ ghost use Rattle.tp_model.specs.Counts.{has_number, is_operating, is_pending, is
 ghost use Rattle.tp_model.specs.Waits.{is_of};
 ghost use Rattle.tp_explore.specs.Ended.{brought, noted_by_entry};
 ghost use Rattle.tp_explore.specs.Faults.{answer_faults, behind, deed_faults, fault_if, is_at_rest, is_none_target, is_run_of, left_as, left_fault, left_faults, line_at, mark_faults, noted_at, taken_faults};
-ghost use Rattle.tp_explore.specs.Watched.{may_refuse_in};
+ghost use Rattle.tp_explore.specs.SameFaults.{is_passed};
+ghost use Rattle.tp_explore.specs.declared.fault.Fault.{Fault};
+ghost use Rattle.tp_explore.specs.Watched.{all_but, may_refuse_in};
 ghost use Rattle.part_places.specs.Places.{part_in};
 
 use crate::deeds::deeds;
@@ -28,19 +30,20 @@ use tp_base::limits::Limits;
 use tp_base::rows::{CallbackRow, ClientRow, Status, WaitTarget};
 use tp_model::Left;
 
-/// What an entry brings that leads to a world: its faults, those of its answer, then of its marks, then of what is left.
-/// The notes become those behind it.
+/// What an entry brings that leads to a world: its faults but those that are passed over, those of its answer, then of
+/// its marks, then of what is left. The notes become those behind it.
 ///
 /// An `AllocError` comes where memory is refused. The notes are then of no use any more.
 pub fn enter<W: Watches, V: Seen>(
     alloc: Global,
     watches: &W,
+    passed: &[Fault],
     limits: Limits,
     world: &V,
     passage: &Passage,
     notes: &mut Notes,
 ) -> Result<Vec<Fault>, AllocError>
-    ensures faults { IfOk result (λ faults. faults.items ≡ brought (W.watched watches.now) limits (V.world_of world.now) passage.now notes.old) }
+    ensures faults { IfOk result (λ faults. faults.items ≡ brought (all_but passed.now (W.watched watches.now)) limits (V.world_of world.now) passage.now notes.old) }
     ensures noted { OnOk result (notes.new ≡ noted_by_entry (W.watched watches.now) limits passage.now notes.old) }
 {
     let mut faults = Vec::new(alloc);
@@ -49,7 +52,15 @@ pub fn enter<W: Watches, V: Seen>(
     end_entry(notes, watches, passage)?;
     add_deeds(&mut faults, world, notes, &deeds)?;
     add_left(&mut faults, world, &notes.lines)?;
+    pass_over(&mut faults, passed);
     Ok(faults)
+}
+
+// Leaves out those that are passed over.
+fn pass_over(faults: &mut Vec<Fault>, passed: &[Fault])
+    ensures { faults.new.items ≡ filter (λ (f : Fault). not (is_passed passed.now f)) faults.old.items }
+{
+    faults.retain(|fault| !fault.is_passed(passed));
 }
 
 fn add_if(

@@ -21,7 +21,8 @@ use tp_script::{Progress, Routines};
 /// A place, whose names may be those of other places, too.
 #[derive(Drop)]
 pub(crate) struct KeptPlace {
-    names: Rc<[u64; 32]>,
+    locals: Rc<[u64; 32]>,
+    operations: Rc<[u64; 32]>,
     stage: Stage,
     op: u32,
     done: u32,
@@ -39,17 +40,18 @@ impl Model for KeptPlace {
     ghost view = { λ a. record {
       stage = a.stage;
       waits = a.waits;
-      at = record { op = a.op; done = a.done; met = a.met; ending = a.ending; locals = a.names.value };
+      at = record { op = a.op; done = a.done; met = a.met; ending = a.ending; locals = a.locals.value; operations = a.operations.value };
       cut = a.cut;
     } };
 }
 
 impl KeptPlace {
-    fn with(names: Rc<[u64; 32]>, place: &Place) -> KeptPlace
-        ensures { result ≡ record place.now { at = record place.now.at { locals = names.value } } }
+    fn with(locals: Rc<[u64; 32]>, operations: Rc<[u64; 32]>, place: &Place) -> KeptPlace
+        ensures { result ≡ record place.now { at = record place.now.at { locals = locals.value; operations = operations.value } } }
     {
         KeptPlace {
-            names,
+            locals,
+            operations,
             stage: place.stage,
             op: place.at.op,
             done: place.at.done,
@@ -64,19 +66,18 @@ impl KeptPlace {
     fn new(alloc: Global, place: &Place) -> Result<KeptPlace, AllocError>
         ensures { IfOk result (λ kept. kept ≡ place.now) }
     {
-        let names = Rc::new(alloc, place.at.locals)?;
-        Ok(KeptPlace::with(names, place))
+        let locals = Rc::new(alloc, place.at.locals)?;
+        let operations = Rc::new(alloc, place.at.operations)?;
+        Ok(KeptPlace::with(locals, operations, place))
     }
 
     // A place behind this one: where its names are the same, the two have them in common.
     fn behind(&self, alloc: Global, place: &Place) -> Result<KeptPlace, AllocError>
         ensures { IfOk result (λ kept. kept ≡ place.now) }
     {
-        if *self.names == place.at.locals {
-            Ok(KeptPlace::with(self.names.clone()?, place))
-        } else {
-            KeptPlace::new(alloc, place)
-        }
+        let locals = in_common(alloc, &self.locals, &place.at.locals)?;
+        let operations = in_common(alloc, &self.operations, &place.at.operations)?;
+        Ok(KeptPlace::with(locals, operations, place))
     }
 
     /// It, with its names.
@@ -91,10 +92,26 @@ impl KeptPlace {
                 done: self.done,
                 met: self.met,
                 ending: self.ending,
-                locals: *self.names,
+                locals: *self.locals,
+                operations: *self.operations,
             },
             cut: self.cut,
         }
+    }
+}
+
+// These numbers, kept in common with others that are the same.
+fn in_common(
+    alloc: Global,
+    kept: &Rc<[u64; 32]>,
+    numbers: &[u64; 32],
+) -> Result<Rc<[u64; 32]>, AllocError>
+    ensures { IfOk result (λ names. names.value ≡ numbers.now) }
+{
+    if **kept == *numbers {
+        kept.clone()
+    } else {
+        Ok(Rc::new(alloc, *numbers)?)
     }
 }
 
@@ -103,7 +120,8 @@ impl Clone for KeptPlace {
 
     fn clone(&self) -> Result<KeptPlace, AllocError> {
         Ok(KeptPlace {
-            names: self.names.clone()?,
+            locals: self.locals.clone()?,
+            operations: self.operations.clone()?,
             stage: self.stage,
             op: self.op,
             done: self.done,

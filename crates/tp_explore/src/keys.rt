@@ -85,7 +85,8 @@ fn put_progress(at: &Progress, text: &mut Vec<u8>) -> Result<(), AllocError>
     at.done.put(text)?;
     put_flag(text, at.met)?;
     put_flag(text, at.ending)?;
-    put_names(&at.locals, text)
+    put_names(&at.locals, text)?;
+    put_names(&at.operations, text)
 }
 
 // Most parts have few names, and most of a board's key would be their zeros.

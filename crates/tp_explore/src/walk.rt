@@ -9,7 +9,7 @@ ghost use Rattle.tp_model.specs.History.{IsLegal};
 ghost use Rattle.tp_explore.specs.declared.told.Told.{Told};
 ghost use Rattle.tp_explore.specs.Boards.{actors};
 ghost use Rattle.tp_explore.specs.Faults.{faults_of};
-ghost use Rattle.tp_explore.specs.Scripts.{watched};
+ghost use Rattle.tp_explore.specs.Scripts.{watched, watched_but};
 ghost use Rattle.tp_explore.specs.Stands.{place_of};
 ghost use Rattle.tp_explore.specs.Story.{begun_by, happened, happened_of, is_stall, told, told_of, waiting_of};
 ghost use Rattle.tp_explore.specs.Watched.{Watched};
@@ -46,6 +46,23 @@ pub fn story<V: Moving>(
     ensures happened { IfOk result (λ story. story.happened.items ≡ happened_of (watched script.now) limits history.now) }
     ensures waiting { IfOk result (λ story. story.waiting.items ≡ waiting_of (watched script.now) limits history.now) }
 {
+    story_but::<V>(alloc, script, &[], limits, history)
+}
+
+/// The same, where some faults are passed over, and not told.
+pub fn story_but<V: Moving>(
+    alloc: Global,
+    script: &Script,
+    passed: &[Fault],
+    limits: Limits,
+    history: &[Entry],
+) -> Result<Story, AllocError>
+    requires in_range { AreLimitsInRange limits }
+    requires legal { (capacity : ℕ) × IsLegal limits capacity history.now }
+    ensures told { IfOk result (λ story. story.told.items ≡ told_of (watched_but passed.now script.now) limits history.now) }
+    ensures happened { IfOk result (λ story. story.happened.items ≡ happened_of (watched_but passed.now script.now) limits history.now) }
+    ensures waiting { IfOk result (λ story. story.waiting.items ≡ waiting_of (watched_but passed.now script.now) limits history.now) }
+{
     let actors = actors(alloc, &limits)?;
     let mut world = V::open(alloc, limits)?;
     let mut stands = Vec::new(alloc);
@@ -66,7 +83,7 @@ pub fn story<V: Moving>(
         )?;
         let passage = pass(&mut stands, script, entry)?;
         world = led(alloc, world, entry)?;
-        let faults = enter(alloc, script, limits, &world, &passage, &mut notes)?;
+        let faults = enter(alloc, script, passed, limits, &world, &passage, &mut notes)?;
         add_told(&mut told, number, entry.who, &faults)?;
         let deeds = deeds(alloc, script, limits, &passage)?;
         add_happened(&mut happened, number, &deeds)?;

@@ -233,19 +233,19 @@ unplayed_reply bytes threads seed machine json end.NoMemory e = tt
 unplayed_reply bytes threads seed machine json _ e = absurd e
 
 -- gone through in all orders, of which there may be other outputs
-pub explore_reply : (bytes : List ℕ) (workers states : ℕ) (output : Output) → IsExploredOf bytes workers states output.text.items output.ending → IsReply (Explore workers states) bytes (Ok output)
-explore_reply bytes workers states output explored = record { gives = explored; only = λ determined other other_end g. absurd determined }
+pub explore_reply : (bytes : List ℕ) (workers states : ℕ) (each : Bool) (output : Output) → IsExploredOf bytes workers states each output.text.items output.ending → IsReply (Explore workers states each) bytes (Ok output)
+explore_reply bytes workers states each output explored = record { gives = explored; only = λ determined other other_end g. absurd determined }
 
-unexplored : (bytes : List ℕ) (workers states : ℕ) (status : Status) → IsScriptEnd bytes status → IsReply (Explore workers states) bytes (Err status)
-unexplored bytes workers states (BadLine line column) e = record { at = e.0; none = λ h. e.1 h.0 h.1 }
-unexplored bytes workers states end.NoMemory e = tt
-unexplored bytes workers states _ e = absurd e
+unexplored : (bytes : List ℕ) (workers states : ℕ) (each : Bool) (status : Status) → IsScriptEnd bytes status → IsReply (Explore workers states each) bytes (Err status)
+unexplored bytes workers states each (BadLine line column) e = record { at = e.0; none = λ h. e.1 h.0 h.1 }
+unexplored bytes workers states each end.NoMemory e = tt
+unexplored bytes workers states each _ e = absurd e
 
-pub explore_unread : (bytes : List ℕ) (workers states : ℕ) (reply : Result Output Status) (fault : ScriptFault)
+pub explore_unread : (bytes : List ℕ) (workers states : ℕ) (each : Bool) (reply : Result Output Status) (fault : ScriptFault)
     → IsErrAnd reply (λ status. status ≡ status_of_script fault) → IsScriptFault bytes fault → ((lines : List Line) → IsScript bytes lines → IsThat lines (Err fault))
-    → IsReply (Explore workers states) bytes reply
-explore_unread bytes workers states (Ok output) fault h place only = absurd h
-explore_unread bytes workers states (Err status) fault h place only = unexplored bytes workers states status (script_end bytes fault (Err status) h place only)
+    → IsReply (Explore workers states each) bytes reply
+explore_unread bytes workers states each (Ok output) fault h place only = absurd h
+explore_unread bytes workers states each (Err status) fault h place only = unexplored bytes workers states each status (script_end bytes fault (Err status) h place only)
 
 -- played on several, of which there may be other outputs
 pub several_output : (bytes : List ℕ) (threads : ℕ) (seed : Option ℕ) (machine : MachineSize) (json : Bool) (output : Output) → 1 < threads

@@ -57,21 +57,21 @@ without_number (Some text) command = None
 abbrev pub with_number : Option (List ℕ) → (ℕ → Command) → Option Command
 with_number text command = option_map command (option_and_then number_in text)
 
--- the command of a name, with so many threads, the seed if there is one, a machine of this size, so many states, whether JSON was
--- asked for, and the text behind the name
-abbrev pub command_named : Name → ℕ → Option ℕ → MachineSize → ℕ → Bool → Option (List ℕ) → Option Command
-command_named name.Trace threads seed machine states json number = without_number number (Trace machine)
-command_named name.History threads seed machine states json number = without_number number (History machine)
-command_named name.Libraries threads seed machine states json number = without_number number (Libraries machine)
-command_named name.Legacy threads seed machine states json number = without_number number (Legacy machine)
-command_named name.Windows threads seed machine states json number = without_number number (Windows machine)
-command_named name.Check threads seed machine states json number = without_number number Check
-command_named name.Migrate threads seed machine states json number = without_number number Migrate
-command_named name.Port threads seed machine states json number = without_number number Port
-command_named name.Gen threads seed machine states json number = with_number number (λ n. Gen n)
-command_named name.Run threads seed machine states json number = without_number number (Run threads seed machine json)
-command_named name.Explore threads seed machine states json number = without_number number (Explore machine.workers states)
-command_named name.Big threads seed machine states json number = with_number number (λ n. Big n machine json)
+-- the command of a name, with so many threads, the seed if there is one, a machine of this size, so many states, and of what was
+-- said the flags and the text behind the name
+abbrev pub command_named : Name → ℕ → Option ℕ → MachineSize → ℕ → Said → Option Command
+command_named name.Trace threads seed machine states said = without_number said.number (Trace machine)
+command_named name.History threads seed machine states said = without_number said.number (History machine)
+command_named name.Libraries threads seed machine states said = without_number said.number (Libraries machine)
+command_named name.Legacy threads seed machine states said = without_number said.number (Legacy machine)
+command_named name.Windows threads seed machine states said = without_number said.number (Windows machine)
+command_named name.Check threads seed machine states said = without_number said.number Check
+command_named name.Migrate threads seed machine states said = without_number said.number Migrate
+command_named name.Port threads seed machine states said = without_number said.number Port
+command_named name.Gen threads seed machine states said = with_number said.number (λ n. Gen n)
+command_named name.Run threads seed machine states said = without_number said.number (Run threads seed machine said.json)
+command_named name.Explore threads seed machine states said = without_number said.number (Explore machine.workers states said.each)
+command_named name.Big threads seed machine states said = with_number said.number (λ n. Big n machine said.json)
 
 -- each value is in its range, and no seed is for nothing
 abbrev pub command_said : Said → Option Command
@@ -81,7 +81,7 @@ command_said said =
     option_and_then (λ events.
     option_and_then (λ states.
     option_and_then (λ seed.
-    option_and_then (λ name. if is_seed_for_nothing name threads seed then None else command_named name threads seed (record { workers = workers; events = events }) states said.json said.number)
+    option_and_then (λ name. if is_seed_for_nothing name threads seed then None else command_named name threads seed (record { workers = workers; events = events }) states said)
     (option_and_then name_in said.command))
     (seed_in said.seed))
     (bounded 1 16777216 1000000 said.states))

@@ -74,9 +74,10 @@ IsScriptFaultAt text line column = (kind : ScriptKind) × IsFaultIn text line co
 abbrev pub IsPlayedOf : List ℕ → ℕ → Option ℕ → MachineSize → Layout → List ℕ → Ending → Type 0
 IsPlayedOf text threads seed machine layout output ending = (script : Parsed) × IsParsed text script × IsPlayed text script threads seed (limits_for script.lines machine) machine.events layout output ending
 
--- the text is a script, and this is written of its orders with so many workers, where so many states may be met, and its ending
-abbrev pub IsExploredOf : List ℕ → ℕ → ℕ → List ℕ → Ending → Type 0
-IsExploredOf text workers states output ending = (script : Parsed) × IsParsed text script × IsExplored text script workers states output ending
+-- the text is a script, and this is written of its orders with so many workers, where so many states may be met, of one fault or
+-- of each, and its ending
+abbrev pub IsExploredOf : List ℕ → ℕ → ℕ → Bool → List ℕ → Ending → Type 0
+IsExploredOf text workers states each output ending = (script : Parsed) × IsParsed text script × IsExplored text script workers states each output ending
 
 -- what is written of a run besides the summary, which may be JSON: the history and its faults, or nothing
 abbrev pub whole_layout : Bool → Layout
@@ -97,7 +98,7 @@ IsPlayable Migrate = Unit {0}
 IsPlayable Port = Unit {0}
 IsPlayable (Gen number) = Unit {0}
 IsPlayable (Run threads seed machine json) = (1 ≤ threads) × (is_some seed ≡ true → threads ≡ 1) × IsMachineSize machine
-IsPlayable (Explore workers states) = (1 ≤ workers) × (workers ≤ 64) × (1 ≤ states)
+IsPlayable (Explore workers states each) = (1 ≤ workers) × (workers ≤ 64) × (1 ≤ states)
 IsPlayable (Big number machine json) = IsMachineSize machine
 
 -- what the lines of a trace with libraries come to on a machine of this size that has made no step, with as many clients as
@@ -126,7 +127,7 @@ reads (Some Migrate) = true
 reads (Some Port) = true
 reads (Some (Gen number)) = false
 reads (Some (Run threads seed machine json)) = true
-reads (Some (Explore workers states)) = true
+reads (Some (Explore workers states each)) = true
 reads (Some (Big number machine json)) = false
 
 -- the command's input, where the source tells what it has; that of a command which reads nothing is empty
@@ -158,12 +159,12 @@ Gives (Some Migrate) bytes output ending = IsJudged bytes output ending migratio
 Gives (Some Port) bytes output ending = IsPortedOf bytes output ending
 Gives (Some (Gen number)) bytes output ending = (output ≡ generated number 64) × (ending ≡ Fine)
 Gives (Some (Run threads seed machine json)) bytes output ending = IsPlayedOf bytes threads seed machine (whole_layout json) output ending
-Gives (Some (Explore workers states)) bytes output ending = IsExploredOf bytes workers states output ending
+Gives (Some (Explore workers states each)) bytes output ending = IsExploredOf bytes workers states each output ending
 Gives (Some (Big number machine json)) bytes output ending = IsPlayedOf (long_script number) 1 None machine (short_layout json) output ending
 
 -- the command goes through orders
 abbrev pub IsExplore : Command → Type 0
-IsExplore (Explore workers states) = Unit {0}
+IsExplore (Explore workers states each) = Unit {0}
 IsExplore _ = ⊥
 
 -- the command has one output for an input; a run on several threads may have more, by the order in which its actors have turns,
@@ -172,7 +173,7 @@ IsExplore _ = ⊥
 abbrev pub IsDetermined : Option Command → Type 0
 IsDetermined (Some Port) = ⊥
 IsDetermined (Some (Run threads seed machine json)) = threads ≡ 1
-IsDetermined (Some (Explore workers states)) = ⊥
+IsDetermined (Some (Explore workers states each)) = ⊥
 IsDetermined _ = Unit {0}
 
 -- the bytes are in the grammar of the command's input
@@ -188,7 +189,7 @@ IsInGrammar (Some Port) bytes = (devices : List (List Operation)) × IsPortText 
 IsInGrammar (Some Check) bytes = (header : Header) × (lines : List HistoryLine) × IsHistory bytes header lines
 IsInGrammar (Some (Gen number)) bytes = Unit {0}
 IsInGrammar (Some (Run threads seed machine json)) bytes = (script : List Line) × IsScript bytes script
-IsInGrammar (Some (Explore workers states)) bytes = (script : List Line) × IsScript bytes script
+IsInGrammar (Some (Explore workers states each)) bytes = (script : List Line) × IsScript bytes script
 IsInGrammar (Some (Big number machine json)) bytes = Unit {0}
 
 -- the bytes are not in the grammar of the command's input, and this is the place of their first fault
@@ -204,5 +205,5 @@ IsFaultyAt (Some Migrate) bytes line column = IsHistoryFault bytes line column
 IsFaultyAt (Some Port) bytes line column = IsPortFault bytes line column
 IsFaultyAt (Some (Gen number)) bytes line column = ⊥
 IsFaultyAt (Some (Run threads seed machine json)) bytes line column = IsScriptFaultAt bytes line column
-IsFaultyAt (Some (Explore workers states)) bytes line column = IsScriptFaultAt bytes line column
+IsFaultyAt (Some (Explore workers states each)) bytes line column = IsScriptFaultAt bytes line column
 IsFaultyAt (Some (Big number machine json)) bytes line column = ⊥

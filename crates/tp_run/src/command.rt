@@ -56,10 +56,12 @@ pub enum Command {
         json: bool,
     },
     /// Goes through every order of the script that is the input, with so many workers, from 1 to 64, and writes a shortest
-    /// bad one, or that none is. It meets no more states than this, from 1 to 16,777,216.
+    /// bad one, or with `each` a shortest one for each fault, or that none is. No search meets more states than this, from 1
+    /// to 16,777,216.
     Explore {
         workers: u32,
         states: u32,
+        each: bool,
     },
     /// Reads nothing, plays the long script of a number on one thread, on a machine of this size, and
     /// writes the summary of its history, which is JSON if that is wanted.
@@ -199,7 +201,14 @@ fn command_said(texts: &Texts) -> Option<Command>
                 json,
             },
         ),
-        Name::Explore => without_number(texts.number, Command::Explore { workers, states }),
+        Name::Explore => without_number(
+            texts.number,
+            Command::Explore {
+                workers,
+                states,
+                each: texts.each,
+            },
+        ),
         Name::Big => {
             let number = number(texts.number?.as_bytes())?;
             Some(Command::Big {

@@ -16,7 +16,7 @@ use crate::ported::{play_port, play_port_alone};
 use crate::status::{Ending, Status};
 use crate::top::INPUT_LIMIT;
 use kept_book::Kept;
-use order_lines::{Explored, explore_script};
+use order_lines::{Explored, explore_each, explore_script};
 use plain_worlds::PlainWorld;
 use port_lines::read_devices;
 use recorded::{Recorded, program_limits};
@@ -127,9 +127,11 @@ pub fn reply<B: Recorded, G: Gate>(
             one_reading_a_text();
             play_turns::<B, G>(alloc, bytes, seed, machine, json, gate)
         }
-        Command::Explore { workers, states } => {
-            explore_text::<B, PlainWorld>(alloc, bytes, workers, states)
-        }
+        Command::Explore {
+            workers,
+            states,
+            each,
+        } => explore_text::<B, PlainWorld>(alloc, bytes, workers, states, each),
         Command::Big {
             number,
             machine,
@@ -200,15 +202,16 @@ fn explore_text<B: Recorded, V: Moving>(
     bytes: &[u8],
     workers: u32,
     states: u32,
+    each: bool,
 ) -> Result<Output, Status>
     requires few { length bytes.now ≤ INPUT_LIMIT }
     requires workers_least { 1 ≤ workers }
     requires workers_most { workers ≤ 64 }
     requires states { 1 ≤ states }
-    ensures { IsReply (Explore workers states) bytes.now result }
+    ensures { IsReply (Explore workers states each) bytes.now result }
 {
     let script = parse_script(alloc, bytes)?;
-    let output = explored::<B, V>(alloc, &script, bytes, workers, states)?;
+    let output = explored::<B, V>(alloc, &script, bytes, workers, states, each)?;
     Ok(output)
 }
 
@@ -219,16 +222,21 @@ fn explored<B: Recorded, V: Moving>(
     bytes: &[u8],
     workers: u32,
     states: u32,
+    each: bool,
 ) -> Result<Output, AllocError>
     requires few { length bytes.now ≤ INPUT_LIMIT }
     requires clients { HasFewClients script.now.lines }
     requires workers_least { 1 ≤ workers }
     requires workers_most { workers ≤ 64 }
     requires states { 1 ≤ states }
-    ensures { IfOk result (λ output. IsExplored bytes.now script.now workers states output.text.items output.ending) }
+    ensures { IfOk result (λ output. IsExplored bytes.now script.now workers states each output.text.items output.ending) }
 {
     let limits = program_limits(script.clients(), workers);
-    let Explored { text, found } = explore_script::<B, V>(alloc, script, bytes, limits, states)?;
+    let Explored { text, found } = if each {
+        explore_each::<B, V>(alloc, script, bytes, limits, states)?
+    } else {
+        explore_script::<B, V>(alloc, script, bytes, limits, states)?
+    };
     let ending = found.into();
     Ok(Output { text, ending })
 }

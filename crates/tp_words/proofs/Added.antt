@@ -1,13 +1,13 @@
 -- Uses that become rows, one behind another, and the texts that are found in them.
-use Rattle.std.proofs.Common.{◌≡◌, ◌∙◌, Bool, true, false, cond, List, [], ◌∷◌, ◌++◌, map, Option, Some, None, refl, ap, ap₂, sym, append-nil, append_assoc}
-use Rattle.std.specs.Prelude.{◌&&◌, ◌||◌, not, codes, find, option_and_then, option_map, slice_get}
+use Rattle.std.proofs.Common.{◌≡◌, ◌∙◌, Bool, true, false, cond, List, [], ◌∷◌, ◌++◌, map, Option, Some, None, refl, ap, ap₂, subst, sym, append-nil, append_assoc}
+use Rattle.std.specs.Prelude.{◌&&◌, ◌||◌, not, codes, find, fold, option_and_then, option_map, slice_get}
 use Rattle.std.specs.List.{list_any}
 use Rattle.std.specs.Str.{bytes_eq}
 use Rattle.clap.specs.Walk.{Row, Text, at_row, first_of, has_row, more_values, with_default, with_values, without}
 use Rattle.clap.specs.declared.builder.value_parser.Reading.TheVariants.{AsWritten}
 use Rattle.clap.specs.declared.parser.matches.ValueSource.TheVariants.{CommandLine, DefaultValue}
 use Rattle.tp_words.specs.Said.{Use, is_once, is_true, is_used, text_of}
-use Rattle.tp_words.proofs.Rulebook.{flag_rule, json}
+use Rattle.tp_words.proofs.Rulebook.{flag_rule}
 
 abbrev pub row : Use → Row
 row entry = record { id = entry.0; values = entry.1 ∷ []; count = None; source = Some CommandLine; reading = AsWritten }
@@ -85,7 +85,7 @@ added_from_nothing uses = added uses [] ∙ ap (λ any. cond (not any && is_once
 
 -- ---- the texts
 
-text_in : (id : Text) (uses : List Use) → first_of id (map row uses) ≡ text_of id uses
+pub text_in : (id : Text) (uses : List Use) → first_of id (map row uses) ≡ text_of id uses
 text_in id [] = refl
 text_in id (entry ∷ uses) = go (bytes_eq entry.0 id) (text_in id uses)
   where
@@ -102,40 +102,43 @@ not_last id rows last other = ap (option_and_then (λ (r : Row). slice_get r.val
     go [] = ap (λ b. cond b (Some last) None) other
     go (r ∷ rs) = ap (λ found. cond (bytes_eq r.id id) (Some r) found) (go rs)
 
-abbrev unset : Row
-unset = record { id = json; values = codes "false" ∷ []; count = None; source = Some DefaultValue; reading = AsWritten }
+abbrev unset : Text → Row
+unset flag = record { id = flag; values = codes "false" ∷ []; count = None; source = Some DefaultValue; reading = AsWritten }
 
-unset_last : (rows : List Row) → has_row json rows ≡ false → with_default rows flag_rule ≡ rows ++ unset ∷ []
-unset_last rows none = ap (λ b. cond b rows (with_values json AsWritten DefaultValue (codes "false" ∷ []) rows)) none ∙ at_end json (more_values DefaultValue (codes "false" ∷ [])) (unset ∷ []) rows none
-
--- the flag's default changes no other text
-pub other_text : (id : Text) (uses : List Use) → bytes_eq json id ≡ false → first_of id (with_default (map row uses) flag_rule) ≡ text_of id uses
-other_text id uses other = go (has_row json (map row uses)) refl ∙ text_in id uses
+-- a flag's default is a row behind the others, or no row
+defaulted : (P : List Row → Type 0) (flag : Text) (rows : List Row) → P rows → P (rows ++ unset flag ∷ []) → P (with_default rows (flag_rule flag))
+defaulted P flag rows same more = go (has_row flag rows) refl
   where
-    go : (b : Bool) → has_row json (map row uses) ≡ b → first_of id (with_default (map row uses) flag_rule) ≡ first_of id (map row uses)
-    go true has = ap (λ b. first_of id (cond b (map row uses) (with_values json AsWritten DefaultValue (codes "false" ∷ []) (map row uses)))) has
-    go false none = ap (first_of id) (unset_last (map row uses) none) ∙ not_last id (map row uses) unset other
+    go : (b : Bool) → has_row flag rows ≡ b → P (cond b rows (with_values flag AsWritten DefaultValue (codes "false" ∷ []) rows))
+    go true has = same
+    go false none = subst P (sym (at_end flag (more_values DefaultValue (codes "false" ∷ [])) (unset flag ∷ []) rows none)) more
 
-no_row_found : (rows : List Row) (last : Row) → has_row json rows ≡ false → first_of json (rows ++ last ∷ []) ≡ first_of json (last ∷ [])
-no_row_found [] last none = refl
-no_row_found (r ∷ rows) last none =
-    let parts = or_parts (bytes_eq r.id json) (has_row json rows) none in
-    ap (λ b. option_and_then (λ (x : Row). slice_get x.values 0) (cond b (Some r) (find (λ x. bytes_eq x.id json) (rows ++ last ∷ [])))) parts.0 ∙ no_row_found rows last parts.1
+-- the flags' defaults change no other text
+pub other_text : (id : Text) (flags : List Text) (rows : List Row) → list_any (λ flag. bytes_eq flag id) flags ≡ false
+    → first_of id (fold with_default rows (map flag_rule flags)) ≡ first_of id rows
+other_text id [] rows other = refl
+other_text id (flag ∷ flags) rows other =
+    let parts = or_parts (bytes_eq flag id) (list_any (λ f. bytes_eq f id) flags) other in
+    other_text id flags (with_default rows (flag_rule flag)) parts.1
+    ∙ defaulted (λ rs. first_of id rs ≡ first_of id rows) flag rows refl (not_last id rows (unset flag) parts.0)
 
-no_text_found : (rows : List Row) → has_row json rows ≡ false → first_of json rows ≡ None
-no_text_found [] none = refl
-no_text_found (r ∷ rows) none =
-    let parts = or_parts (bytes_eq r.id json) (has_row json rows) none in
-    ap (λ b. option_and_then (λ (x : Row). slice_get x.values 0) (cond b (Some r) (find (λ x. bytes_eq x.id json) rows))) parts.0 ∙ no_text_found rows parts.1
-
--- and the flag's text is `true` where the flag was used, as it is without a default
-pub flag_text : (uses : List Use) → is_true (first_of json (with_default (map row uses) flag_rule)) ≡ is_true (text_of json uses)
-flag_text uses = go (has_row json (map row uses)) refl
+-- and leave as it is whether a text is `true`
+unset_last : (id flag : Text) (rows : List Row) → is_true (first_of id (rows ++ unset flag ∷ [])) ≡ is_true (first_of id rows)
+unset_last id flag [] = go (bytes_eq flag id)
   where
-    go : (b : Bool) → has_row json (map row uses) ≡ b → is_true (first_of json (with_default (map row uses) flag_rule)) ≡ is_true (text_of json uses)
-    go true has =
-        ap (λ b. is_true (first_of json (cond b (map row uses) (with_values json AsWritten DefaultValue (codes "false" ∷ []) (map row uses))))) has
-        ∙ ap is_true (text_in json uses)
-    go false none =
-        ap (λ rows. is_true (first_of json rows)) (unset_last (map row uses) none)
-        ∙ (ap is_true (no_row_found (map row uses) unset none) ∙ ap is_true (sym (no_text_found (map row uses) none) ∙ text_in json uses))
+    go : (b : Bool) → is_true (option_and_then (λ (r : Row). slice_get r.values 0) (cond b (Some (unset flag)) None)) ≡ false
+    go true = refl
+    go false = refl
+unset_last id flag (r ∷ rows) = go (bytes_eq r.id id) (unset_last id flag rows)
+  where
+    go : (b : Bool) → is_true (first_of id (rows ++ unset flag ∷ [])) ≡ is_true (first_of id rows)
+        → is_true (option_and_then (λ (x : Row). slice_get x.values 0) (cond b (Some r) (find (λ x. bytes_eq x.id id) (rows ++ unset flag ∷ []))))
+        ≡ is_true (option_and_then (λ (x : Row). slice_get x.values 0) (cond b (Some r) (find (λ x. bytes_eq x.id id) rows)))
+    go true e = refl
+    go false e = e
+
+pub flag_text : (id : Text) (flags : List Text) (rows : List Row) → is_true (first_of id (fold with_default rows (map flag_rule flags))) ≡ is_true (first_of id rows)
+flag_text id [] rows = refl
+flag_text id (flag ∷ flags) rows =
+    flag_text id flags (with_default rows (flag_rule flag))
+    ∙ defaulted (λ rs. is_true (first_of id rs) ≡ is_true (first_of id rows)) flag rows refl (unset_last id flag rows)

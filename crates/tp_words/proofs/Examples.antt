@@ -3,7 +3,7 @@ use Rattle.std.proofs.Common.{◌≡◌, false, true, [], ◌∷◌, Some, None,
 use Rattle.tp_words.specs.Said.{Said, said}
 
 abbrev silent : Said
-silent = record { command = None; number = None; threads = None; seed = None; workers = None; events = None; states = None; json = false }
+silent = record { command = None; number = None; threads = None; seed = None; workers = None; events = None; states = None; json = false; each = false }
 
 -- ---- good lists
 
@@ -36,6 +36,9 @@ options_before_and_behind = refl
 
 a_seed_and_json : said (codes "--json" ∷ codes "run" ∷ codes "--seed" ∷ codes "07" ∷ []) ≡ Some (record silent { command = Some (codes "run"); seed = Some (codes "07"); json = true })
 a_seed_and_json = refl
+
+both_flags : said (codes "explore" ∷ codes "--each" ∷ codes "--json" ∷ []) ≡ Some (record silent { command = Some (codes "explore"); json = true; each = true })
+both_flags = refl
 
 no_text_behind_equals : said (codes "trace" ∷ codes "--workers=" ∷ []) ≡ Some (record silent { command = Some (codes "trace"); workers = Some [] })
 no_text_behind_equals = refl
@@ -75,14 +78,17 @@ a_value_with_a_hyphen = refl
 an_option_twice : said (codes "run" ∷ codes "--seed" ∷ codes "1" ∷ codes "--seed=1" ∷ []) ≡ None
 an_option_twice = refl
 
-the_flag_twice : said (codes "trace" ∷ codes "--json" ∷ codes "--json" ∷ []) ≡ None
-the_flag_twice = refl
+a_flag_twice : said (codes "trace" ∷ codes "--json" ∷ codes "--json" ∷ []) ≡ None
+a_flag_twice = refl
 
-the_flag_with_a_value : said (codes "trace" ∷ codes "--json=1" ∷ []) ≡ None
-the_flag_with_a_value = refl
+each_twice : said (codes "explore" ∷ codes "--each" ∷ codes "--json" ∷ codes "--each" ∷ []) ≡ None
+each_twice = refl
 
-the_flag_with_no_text : said (codes "--json=" ∷ []) ≡ None
-the_flag_with_no_text = refl
+a_flag_with_a_value : said (codes "trace" ∷ codes "--json=1" ∷ []) ≡ None
+a_flag_with_a_value = refl
+
+a_flag_with_no_text : said (codes "--json=" ∷ []) ≡ None
+a_flag_with_no_text = refl
 
 a_command_as_an_option : said (codes "--command=trace" ∷ []) ≡ None
 a_command_as_an_option = refl

@@ -43,6 +43,7 @@ said_by_rows rows = record {
   events = first_of (codes "events") rows;
   states = first_of (codes "states") rows;
   json = is_true (first_of (codes "json") rows);
+  each = is_true (first_of (codes "each") rows);
 }
 
 -- what `clap` says that the words say

@@ -1,6 +1,8 @@
 -- What words say is what `clap` says that they say.
 use Rattle.std.proofs.Common.{◌≡◌, ◌∙◌, Bool, true, false, cond, List, [], ◌∷◌, map, Option, Some, None, refl, ap, codes}
-use Rattle.std.specs.Prelude.{is_some, option_and_then, option_map, string_bytes}
+use Rattle.std.specs.Prelude.{fold, is_some, option_and_then, option_map, string_bytes}
+use Rattle.std.specs.List.{list_any}
+use Rattle.std.specs.Str.{bytes_eq}
 use Rattle.std.proofs.lemmas.Str.{IsUtf8-string_bytes}
 use Rattle.std.specs.declared.string.String.{String}
 use Rattle.clap.specs.Faults.{built_fault, check_fault, defaults_fault, entered_fault, settle_fault, walk_fault}
@@ -9,10 +11,10 @@ use Rattle.clap.specs.Simple.{entered, names_of}
 use Rattle.clap.specs.Walk.{Held, Row, Text, finished, nothing_held, rows_after, settled, walk, walk_from, with_default}
 use Rattle.clap.specs.Words.{fault_of, matches_of}
 use Rattle.tp_words.specs.Rules.{tpool}
-use Rattle.tp_words.specs.Said.{Said, Use, is_once, said, said_by, start, uses_in}
+use Rattle.tp_words.specs.Said.{Said, Use, flags, is_once, is_true, said, said_by, start, uses_in}
 use Rattle.tp_words.proofs.Faults.{parsed, said_by_rows, unless}
 use Rattle.tp_words.proofs.Rulebook.{app, built_is, defaults_are, flag_rule, no_check_fault, no_default_fault, rules, shape}
-use Rattle.tp_words.proofs.Added.{add_all, added_from_nothing, flag_text, other_text, row}
+use Rattle.tp_words.proofs.Added.{add_all, added_from_nothing, flag_text, other_text, row, text_in}
 use Rattle.tp_words.proofs.Walked.{AreTexts, else_nothing, rows_found, unless_else}
 
 abbrev end_of : List Text → Held
@@ -38,23 +40,27 @@ faults_are words =
     (defaults_fault (rows_at_end words) rules) (check_fault shape (finished rules (end_of words)) (is_some (entered app stop)))
     (no_subcommand stop) (no_default_fault (rows_at_end words)) (no_check_fault (finished rules (end_of words)) (is_some (entered app stop)))
 
-rows_are : (words : List Text) → matches_of tpool words ≡ with_default (rows_at_end words) flag_rule
+rows_are : (words : List Text) → matches_of tpool words ≡ fold with_default (rows_at_end words) (map flag_rule flags)
 rows_are words = ap (λ a. rows_after a.top.rules (names_of a) words) built_is ∙ defaults_are (rows_at_end words)
 
 abbrev told : List Row → Said
-told rows = said_by_rows (with_default rows flag_rule)
+told rows = said_by_rows (fold with_default rows (map flag_rule flags))
 
 told_is : (uses : List Use) → told (map row uses) ≡ said_by uses
-told_is uses = λ i. record {
-  command = other_text (codes "command") uses refl i;
-  number = other_text (codes "number") uses refl i;
-  threads = other_text (codes "threads") uses refl i;
-  seed = other_text (codes "seed") uses refl i;
-  workers = other_text (codes "workers") uses refl i;
-  events = other_text (codes "events") uses refl i;
-  states = other_text (codes "states") uses refl i;
-  json = flag_text uses i;
-}
+told_is uses =
+    let text = λ (id : Text) (other : list_any (λ flag. bytes_eq flag id) flags ≡ false). other_text id flags (map row uses) other ∙ text_in id uses in
+    let is_there = λ (id : Text). flag_text id flags (map row uses) ∙ ap is_true (text_in id uses) in
+    λ i. record {
+      command = text (codes "command") refl i;
+      number = text (codes "number") refl i;
+      threads = text (codes "threads") refl i;
+      seed = text (codes "seed") refl i;
+      workers = text (codes "workers") refl i;
+      events = text (codes "events") refl i;
+      states = text (codes "states") refl i;
+      json = is_there (codes "json") i;
+      each = is_there (codes "each") i;
+    }
 
 map_unless : (f : List Row → Said) (a : Kinds) (o : Option (List Row)) → unless a (option_map f o) ≡ option_map f (unless a o)
 map_unless f [] o = refl

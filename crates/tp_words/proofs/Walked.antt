@@ -11,9 +11,9 @@ use Rattle.clap.specs.Walk.{Held, Row, Rule, Text, Waiting, Walk, after_step, ar
 use Rattle.clap.specs.declared.error.kind.ErrorKind.TheVariants.{ArgumentConflict, InvalidValue, TooManyValues, UnknownArgument}
 use Rattle.clap.specs.declared.builder.value_parser.Reading.TheVariants.{AsWritten}
 use Rattle.clap.specs.declared.parser.matches.ValueSource.TheVariants.{CommandLine}
-use Rattle.tp_words.specs.Said.{Reading, Use, Word, alone_said, option_named, start, uses_in, word_said}
+use Rattle.tp_words.specs.Said.{Reading, Use, Word, alone_said, flags, named, options, start, uses_in, word_said}
 use Rattle.tp_words.proofs.Faults.{unless}
-use Rattle.tp_words.proofs.Rulebook.{IsLong, IsOne, command_is_one, first_place, flag_rule, json, long_cases, no_letter, number_is_one, one, option_rule, rules, second_place, shape, third_place}
+use Rattle.tp_words.proofs.Rulebook.{IsLong, IsOne, command_is_one, first_place, flag_rule, long_cases, no_letter, number_is_one, one, option_rule, rules, second_place, shape, third_place}
 use Rattle.tp_words.proofs.Added.{add_all, row, used_once}
 
 -- ---- a walk from where it stands to its end
@@ -68,9 +68,9 @@ value_adds : {X : Type 0} (id : Text) (long : Option Text) (index : Option ℕ) 
     → unless (use_fault false (one id long index) (v ∷ []) rows) (k (used (one id long index) (v ∷ []) rows)) ≡ cond (has_row id rows) None (k (rows ++ row (id, v) ∷ []))
 value_adds id long index v rows k = use_adds (id, v) rows k
 
-flag_adds : {X : Type 0} (rows : List Row) (k : List Row → Option X)
-    → unless (use_fault false flag_rule [] rows) (k (used flag_rule [] rows)) ≡ cond (has_row json rows) None (k (rows ++ row (json, codes "true") ∷ []))
-flag_adds rows k = use_adds (json, codes "true") rows k
+flag_adds : {X : Type 0} (id : Text) (rows : List Row) (k : List Row → Option X)
+    → unless (use_fault false (flag_rule id) [] rows) (k (used (flag_rule id) [] rows)) ≡ cond (has_row id rows) None (k (rows ++ row (id, codes "true") ∷ []))
+flag_adds id rows k = use_adds (id, codes "true") rows k
 
 -- ---- what is held: nothing, or the last value, which is used a word later or at the end
 
@@ -389,7 +389,7 @@ using h rows spot w reading word words entry rule values all fault to adds says 
     ∙ (settles_joined h rows (entry ∷ []) uses ∙ sym (said_is h rows reading word words (entry ∷ [], reading_at spot (free false nothing)) says))))))
 
 long_word : (h : Hold) (rows : List Row) (spot : Spot) (word name : Text) (given : Option Text) (words : List Text) → AllAgree words
-    → bytes_eq word (45 ∷ 45 ∷ []) ≡ false → long_of word ≡ Some (name, given) → IsLong (arg_by_long rules name) (option_named name) (bytes_eq json name)
+    → bytes_eq word (45 ∷ 45 ∷ []) ≡ false → long_of word ≡ Some (name, given) → IsLong (arg_by_long rules name) (named options name) (named flags name)
     → Agrees rows spot (free false h) (word ∷ words)
 unfolding walked
 long_word h rows spot word name (Some v) words all d l (inl long) =
@@ -400,18 +400,18 @@ long_word h rows spot word name None words all d l (inl long) =
     settling h rows (walk_at rows spot (free false h)) (walk_at (settled_rows rules (pending_in h) rows) spot next) (reading_at spot (free false h)) word words
     ([], reading_at spot next) (rw (d, l, long.2) (else_nothing _)) (rw (d, l, long.2) refl) (all (settled_rows rules (pending_in h) rows) spot next) (rw (d, l, long.3) refl)
 long_word h rows spot word name None words all d l (inr (inl flag)) =
-    using h rows spot (walk_at rows spot (free false h)) (reading_at spot (free false h)) word words (json, codes "true") flag_rule [] all
-    (rw (d, l, flag.0) (else_nothing _)) (rw (d, l, flag.0) refl) (λ rs k. flag_adds rs k) (rw (d, l, flag.1, flag.2) refl)
+    using h rows spot (walk_at rows spot (free false h)) (reading_at spot (free false h)) word words (flag.0, codes "true") (flag_rule flag.0) [] all
+    (rw (d, l, flag.1) (else_nothing _)) (rw (d, l, flag.1) refl) (λ rs k. flag_adds flag.0 rs k) (rw (d, l, flag.2, flag.3) refl)
 long_word h rows spot word name (Some v) words all d l (inr (inl flag)) =
     refused h rows (walk_at rows spot (free false h)) (reading_at spot (free false h)) word words (TooManyValues ∷ [])
-    (rw (d, l, flag.0) refl) (λ o. refl) (rw (d, l, flag.1, flag.2) refl)
+    (rw (d, l, flag.1) refl) (λ o. refl) (rw (d, l, flag.2, flag.3) refl)
 long_word h rows spot word name given words all d l (inr (inr unknown)) =
     refused h rows (walk_at rows spot (free false h)) (reading_at spot (free false h)) word words (UnknownArgument ∷ [])
     (rw (d, l, unknown.0) refl) (λ o. refl) (rw (d, l, unknown.1, unknown.2) refl)
 
 -- where an option waits for its value, none of them is it
 long_waiting : (id : Text) (is : IsOne id) (rows : List Row) (spot : Spot) (word name : Text) (given : Option Text) (words : List Text)
-    → bytes_eq word (45 ∷ 45 ∷ []) ≡ false → long_of word ≡ Some (name, given) → IsLong (arg_by_long rules name) (option_named name) (bytes_eq json name)
+    → bytes_eq word (45 ∷ 45 ∷ []) ≡ false → long_of word ≡ Some (name, given) → IsLong (arg_by_long rules name) (named options name) (named flags name)
     → Agrees rows spot (waits id is) (word ∷ words)
 long_waiting id is rows spot word name (Some v) words d l (inl long) =
     refused nothing rows (walk_at rows spot (waits id is)) (reading_at spot (waits id is)) word words (InvalidValue ∷ [])
@@ -421,10 +421,10 @@ long_waiting id is rows spot word name None words d l (inl long) =
     (rw (d, l, long.2, waits_fault rows id is) refl) (λ o. refl) (rw (d, l) refl)
 long_waiting id is rows spot word name None words d l (inr (inl flag)) =
     refused nothing rows (walk_at rows spot (waits id is)) (reading_at spot (waits id is)) word words (InvalidValue ∷ [])
-    (rw (d, l, flag.0, waits_fault rows id is) refl) (λ o. refl) (rw (d, l) refl)
+    (rw (d, l, flag.1, waits_fault rows id is) refl) (λ o. refl) (rw (d, l) refl)
 long_waiting id is rows spot word name (Some v) words d l (inr (inl flag)) =
     refused nothing rows (walk_at rows spot (waits id is)) (reading_at spot (waits id is)) word words (TooManyValues ∷ [])
-    (rw (d, l, flag.0) refl) (λ o. refl) (rw (d, l) refl)
+    (rw (d, l, flag.1) refl) (λ o. refl) (rw (d, l) refl)
 long_waiting id is rows spot word name given words d l (inr (inr unknown)) =
     refused nothing rows (walk_at rows spot (waits id is)) (reading_at spot (waits id is)) word words (UnknownArgument ∷ [])
     (rw (d, l, unknown.0) refl) (λ o. refl) (rw (d, l) refl)

@@ -1,7 +1,8 @@
 -- The command that the words are read by, as `clap` sees it.
-use Rattle.std.specs.Prelude.{Some, codes, true}
+use Rattle.std.specs.Prelude.{◌∷◌, ◌++◌, Some, codes, fold, map, true}
 use Rattle.clap.specs.Words.{App, Rule, Text, new_app, new_rule, with_rule}
 use Rattle.clap.specs.declared.builder.action.ArgAction.TheVariants.{SetTrue}
+use Rattle.tp_words.specs.Said.{flags, options}
 
 abbrev pub alone : Text → Rule
 alone name = new_rule name
@@ -16,8 +17,4 @@ abbrev pub bare : App
 bare = let a = new_app (codes "tpool") in record a { top = record a.top { no_binary_name = true; disable_help_flag = true } }
 
 abbrev pub tpool : App
-tpool =
-    with_rule (with_rule (with_rule (with_rule (with_rule (with_rule (with_rule (with_rule bare
-    (alone (codes "command"))) (alone (codes "number")))
-    (valued (codes "threads"))) (valued (codes "seed"))) (valued (codes "workers"))) (valued (codes "events")))
-    (valued (codes "states"))) (flag (codes "json"))
+tpool = fold with_rule bare (alone (codes "command") ∷ alone (codes "number") ∷ map valued options ++ map flag flags)

@@ -16,6 +16,7 @@ pub record Said : Type 0 where
   pub events : Option Text
   pub states : Option Text
   pub json : Bool
+  pub each : Bool
 
 abbrev pub said_in : Texts → Said
 said_in texts = record {
@@ -27,11 +28,12 @@ said_in texts = record {
   events = option_map (λ text. text.now) texts.events;
   states = option_map (λ text. text.now) texts.states;
   json = texts.json;
+  each = texts.each;
 }
 
 -- ---- the uses that words make of names
 
--- a name with its text: of the command, of the number behind it, of an option with its value, or of the flag, whose text is `true`
+-- a name with its text: of the command, of the number behind it, of an option with its value, or of a flag, whose text is `true`
 abbrev pub Use : Type 0
 Use = Text × Text
 
@@ -49,9 +51,17 @@ start = record { closed = false; awaited = None; alone = codes "command" ∷ cod
 abbrev pub Word : Type 0
 Word = List Use × Reading
 
--- the option with a value that is so named
-abbrev pub option_named : Text → Option Text
-option_named name = find (λ option. bytes_eq option name) (codes "threads" ∷ codes "seed" ∷ codes "workers" ∷ codes "events" ∷ codes "states" ∷ [])
+-- the options with a value
+abbrev pub options : List Text
+options = codes "threads" ∷ codes "seed" ∷ codes "workers" ∷ codes "events" ∷ codes "states" ∷ []
+
+-- those without one
+abbrev pub flags : List Text
+flags = codes "json" ∷ codes "each" ∷ []
+
+-- the one of them that is so named
+abbrev pub named : List Text → Text → Option Text
+named names name = find (λ one. bytes_eq one name) names
 
 -- nothing is said where an option waits for its value
 abbrev pub unawaited : {X : Type 0} → Option Text → Option X → Option X
@@ -77,19 +87,19 @@ abbrev pub value_said : Text → Option Text → Reading → Option Word
 value_said name (Some value) reading = Some ((name, value) ∷ [], reading)
 value_said name None reading = Some ([], record reading { awaited = Some name })
 
--- the flag has no value
-abbrev pub flag_said : Bool → Option Text → Reading → Option Word
-flag_said true None reading = Some ((codes "json", codes "true") ∷ [], reading)
-flag_said true (Some value) reading = None
-flag_said false value reading = None
+-- a flag has no value
+abbrev pub flag_said : Option Text → Option Text → Reading → Option Word
+flag_said (Some name) None reading = Some ((name, codes "true") ∷ [], reading)
+flag_said (Some name) (Some value) reading = None
+flag_said None value reading = None
 
-abbrev pub option_said : Option Text → Bool → Option Text → Reading → Option Word
-option_said (Some name) is_flag value reading = value_said name value reading
-option_said None is_flag value reading = flag_said is_flag value reading
+abbrev pub option_said : Option Text → Option Text → Option Text → Reading → Option Word
+option_said (Some name) flag value reading = value_said name value reading
+option_said None flag value reading = flag_said flag value reading
 
 -- `--name` and `--name=value`, as a name and a value
 abbrev pub long_said : Option (Text × Option Text) → Text → Reading → Option Word
-long_said (Some long) word reading = unawaited reading.awaited (option_said (option_named long.0) (bytes_eq (codes "json") long.0) long.1 reading)
+long_said (Some long) word reading = unawaited reading.awaited (option_said (named options long.0) (named flags long.0) long.1 reading)
 long_said None word reading = short_said (short_of word) word reading
 
 abbrev pub word_said : Text → Reading → Option Word
@@ -128,6 +138,7 @@ said_by uses = record {
   events = text_of (codes "events") uses;
   states = text_of (codes "states") uses;
   json = is_true (text_of (codes "json") uses);
+  each = is_true (text_of (codes "each") uses);
 }
 
 -- what the words say, or none where they say nothing

@@ -1,7 +1,7 @@
 //! The words that the program is called with, read with `clap`.
 //!
 //! `read` tells what stands where: the word that is the command, the number behind it, the value of each option and whether
-//! the flag was there, all as texts. Whether they are numbers, in their ranges, and what the command wants, is judged by
+//! each flag was there, all as texts. Whether they are numbers, in their ranges, and what the command wants, is judged by
 //! whoever asks.
 //!
 //! ```text

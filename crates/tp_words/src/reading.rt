@@ -29,6 +29,8 @@ pub struct Texts<'a> {
     pub states: Option<&'a str>,
     /// Whether `--json` was there.
     pub json: bool,
+    /// Whether `--each` was there.
+    pub each: bool,
 }
 
 /// Why words are not read.
@@ -102,10 +104,11 @@ fn tpool_command<'a>(alloc: Global) -> Result<Command<'a>, AllocError>
     let command = with(command, valued(alloc, "workers"))?;
     let command = with(command, valued(alloc, "events"))?;
     let command = with(command, valued(alloc, "states"))?;
-    with(command, flag(alloc, "json"))
+    let command = with(command, flag(alloc, "json"))?;
+    with(command, flag(alloc, "each"))
 }
 
-// Whether the text of the flag tells that it was there.
+// Whether the text of a flag tells that it was there.
 fn is_true(text: Option<&str>) -> bool
     ensures { result ≡ is_true (option_map (λ t. t.now) text.entry) }
 {
@@ -128,6 +131,7 @@ pub fn read<'a>(alloc: Global, words: &'a WordList) -> Result<Texts<'a>, WordFau
             events: matches.get_str("events"),
             states: matches.get_str("states"),
             json: is_true(matches.get_str("json")),
+            each: is_true(matches.get_str("each")),
         }),
         Err(error) => match error.kind() {
             ErrorKind::OutOfMemory => Err(WordFault::NoMemory),

@@ -27,6 +27,7 @@ returns-in-Ok-clause-ok c =
     let events = c.get_str-in-Ok-5.ensures ∙ at (codes "events") in
     let states = c.get_str-in-Ok-6.ensures ∙ at (codes "states") in
     let json = c.is_true.ensures ∙ ap is_true (c.get_str-in-Ok-7.ensures ∙ at (codes "json")) in
+    let each = c.is_true-in-Ok.ensures ∙ ap is_true (c.get_str-in-Ok-8.ensures ∙ at (codes "each")) in
     sym is_read ∙ (unless_none (fault_of tpool words) (Some (said_by_rows (matches_of tpool words))) faults
     ∙ (λ i. Some (record {
       command = sym command i;
@@ -37,6 +38,7 @@ returns-in-Ok-clause-ok c =
       events = sym events i;
       states = sym states i;
       json = sym json i;
+      each = sym each i;
     })))
 
 pub returns : goal.returns

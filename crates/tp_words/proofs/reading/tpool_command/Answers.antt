@@ -13,4 +13,5 @@ returns c =
     let five = c.in_ok-command-5.ensures ∙ ap₂ with_rule four c.valued-3.ensures.rule in
     let six = c.in_ok-command-6.ensures ∙ ap₂ with_rule five c.valued-4.ensures.rule in
     let seven = c.in_ok-command-7.ensures ∙ ap₂ with_rule six c.valued-5.ensures.rule in
-    IfOk-weaker c.with-8.result _ _ (λ command is. is ∙ ap₂ with_rule seven c.flag.ensures.rule) c.with-8.ensures
+    let eight = c.in_ok-command-8.ensures ∙ ap₂ with_rule seven c.flag.ensures.rule in
+    IfOk-weaker c.with-9.result _ _ (λ command is. is ∙ ap₂ with_rule eight c.flag-2.ensures.rule) c.with-9.ensures

@@ -2,12 +2,12 @@ use Rattle.std.proofs.Common.{ap, ◌∙◌}
 use Rattle.tp_explore.proofs.BoardsKept.{comes}
 use Rattle.tp_explore.specs.Ended.{brought}
 use Rattle.tp_explore.specs.Kept.{board_of}
-use Rattle.tp_explore.specs.Scripts.{watched}
+use Rattle.tp_explore.specs.Scripts.{watched_but}
 use Rattle.tp_explore.proofs.boards.Boards.behind.Goals as goal
 
 pub returns : goal.returns
 returns g c = λ w made.
-    let k = watched c.args.self.now.script.now in
+    let k = watched_but c.args.self.now.passed.now c.args.self.now.script.now in
     let l = c.args.self.now.limits in
     let b = board_of w made c.args.places.now c.args.notes.now in
     c.unless.ensures k l

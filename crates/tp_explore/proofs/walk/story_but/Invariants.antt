@@ -1,9 +1,9 @@
-use Rattle.tp_explore.specs.Scripts.{watched}
+use Rattle.tp_explore.specs.Scripts.{watched_but}
 use Rattle.tp_explore.proofs.Telling.{IsTold}
-use Rattle.tp_explore.proofs.walk.story.Given as goal
+use Rattle.tp_explore.proofs.walk.story_but.Given as goal
 
 abbrev pub invariant-loop-entry : goal.invariant-loop-entry
-invariant-loop-entry g l = IsTold (watched l.script) l.limits l.history l.entry-index (record {
+invariant-loop-entry g l = IsTold (watched_but l.passed l.script) l.limits l.history l.entry-index (record {
   number = l.number;
   kept = g.V.Reads.world_of l.world;
   made = g.V.Reads.made_of l.world;
