@@ -73,7 +73,7 @@ function follow(from, name,    parts, count, path, at) {
     if (name !~ /^Rattle\./) name = beside(from, name)
     count = split(name, parts, ".")
     if (!(parts[2] in is_crate)) kits[parts[2]]
-    else if (parts[4] == "declared") add(declaring(parts[2], parts[5]))
+    else if (parts[4] == "declared" || parts[4] == "contracts") add(declaring(parts[2], parts[5]))
     else {
         path = "crates/" parts[2] "/specs"
         for (at = 4; at <= count; at++) {

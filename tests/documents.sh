@@ -236,7 +236,7 @@ unused_crates() {
         }' - "$here/crates.txt"
 }
 # Besides, those that are for programs of one's own: the search, the orders of a script, and keys of worlds.
-try 'a program stands on each crate but those of tests and those on runs, orders and names' 0 $'run_orders\nrenamed_worlds\nmachine_tests\npart_tests\n' '' unused_crates
+try 'a program stands on each crate but those of tests and that on runs and orders' 0 $'run_orders\nmachine_tests\npart_tests\n' '' unused_crates
 crate_names() { sed -n 's/^\([a-z][a-z_0-9]*\):.*/\1/p' crates.txt; }
 
 # The files of some crates in which a word of a pattern stands, but for worked examples.
