@@ -1,5 +1,6 @@
 pub mod Closed
 pub mod Firsts
+pub mod InOrder
 pub mod InPlace
 pub mod Joining
 pub mod Kept

@@ -66,8 +66,8 @@ impl Rows {
         put(text, self.given_up)
     }
 
-    // Appends the code of the world.
-    fn write(&self, text: &mut Vec<u8>) -> Result<(), AllocError>
+    /// Appends the code of the world.
+    pub(crate) fn write(&self, text: &mut Vec<u8>) -> Result<(), AllocError>
         ensures { OnOk result (text.new.items ≡ text.old.items ++ world_code self.now) }
     {
         self.write_things(text)?;

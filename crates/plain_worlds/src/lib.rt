@@ -12,6 +12,7 @@ ghost use Rattle.plain_worlds.specs.Plain.{moved};
 
 pub use closing::place_of;
 pub use keys::keys_tell_apart;
+pub use ordering::{exchange, exchanged_who, order_of};
 use renamed_worlds::closed_worlds_are_sound;
 use rows::Rows;
 use std::alloc::{AllocError, Global};
@@ -35,6 +36,7 @@ mod kernel_reads;
 mod kernels;
 mod keys;
 mod objects;
+mod ordering;
 mod pool_reads;
 mod pools;
 mod progress;

@@ -1,3 +1,4 @@
 pub mod Renamed
 pub mod Closed
 pub mod Exchanged
+pub mod Ordered
