@@ -44,6 +44,7 @@ bad $'c2 end -> ended\nend 9\nbad freed-in-use ctx line 11 c2\nmark 7 w1 use ctx
 none own-event-on-return
 bad $'c2 end -> stalled\nend 11\nbad stalled wait line 10 c2\nwaits c2 line 10\nwaits w1 line 4\n' own-lock
 none own-lock-given-back
+none again
 bad $'w1 take -> taken 1 o1 r1 x0 plain\nend 7\nbad use-after-free ctx line 4 w1\nmark 5 c2 free ctx\nmark 7 w1 use ctx\n' own-close
 none own-close-waited
 bad $'c2 end -> stalled\nend 12\nbad stalled wait line 12 c2\nwaits c2 line 12\nwaits w1 line 6\n' cycle
@@ -82,8 +83,8 @@ input=$'memory m\nclient\nfree m\ndone\nclient\nuse m\ndone\n'
 try 'a use that may begin behind a free' 10 $'~*end 1\nbad use-after-free m line 6 c1\nmark 1 c2 free m\nmark 1 c3 use m\nstates 1\n' '' "$program" explore
 
 # --- How far it is looked
-input=$(<"$here/tests/orders/again.script")
-try 'a script without an end is given up' 11 $'~gave up at 100 states\ndeep ?\n' '' "$program" explore --states 100
+input=$(<"$here/tests/orders/later.script")
+try 'a script without an end is given up' 11 $'~gave up at 100 states\ndeep ??\n' '' "$program" explore --states 100
 try 'one state may be met' 11 $'gave up at 1 states\ndeep 0\n' '' "$program" explore --states 1
 input=$'client\ndone\n'
 try 'an order has an end' 0 $'none\nstates 3\nsteps 2\n' '' "$program" explore --workers 1

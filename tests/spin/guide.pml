@@ -8,18 +8,10 @@
    number of workers, so that neither has an effect; callback 1, the timer's, and callback 2, the work's, which are never
    pending at one time; nothing of the timer but that it expires where client 2 lets the time pass, since it is unset before
    any more passes; no refusal but that of `submit`; no want of room. No wait stalls here, since what one covers runs, and no
-   routine waits: that is left out too, and SPIN tells of a state in which nobody can go on.
-
-   With -DALIKE states differ in one thing besides, on which no order hangs, and in which `explore` tells states apart: which
-   worker has run a callback. (`spin -o2` keeps it, though nobody reads it.) */
+   routine waits: that is left out too, and SPIN tells of a state in which nobody can go on. */
 
 #ifndef WORKERS
 #define WORKERS 2
-#endif
-#ifdef ALIKE
-#define ALSO(change) change
-#else
-#define ALSO(change) skip
 #endif
 
 /* a callback; none before it is made, and when it is over or cancelled */
@@ -118,14 +110,13 @@ end_finished:
 
 active [WORKERS] proctype worker()
 {
-    bool has_run;
 end_away:
     do
     /* the pool is in need: something is pending, and nobody is idle */
     :: d_step { PENDING && idle == 0 -> away--; idle++; printf("%d w%d attach -> attached 0\n", moment, _pid - 1) };
         do
         :: d_step {
-                tick == pending -> idle--; tick = running; has_run = false;
+                tick == pending -> idle--; tick = running;
                 printf("%d w%d take -> taken 1 o2 r2 x2 plain\n", moment, _pid - 1)
             };
             if
@@ -133,18 +124,18 @@ end_away:
             :: d_step { released -> printf("%d w%d submit 1 -> refused released\n", moment, _pid - 1); assert(false) }
             fi;
             d_step {
-                tick = none; idle++; ALSO(has_run = true);
+                tick = none; idle++;
                 printf("%d w%d return -> returned - - - - 0 0\n", moment, _pid - 1)
             }
         /* use text takes place with the take, and ends with the return */
         :: d_step {
-                save == pending -> idle--; save = running; has_run = false;
+                save == pending -> idle--; save = running;
                 printf("%d w%d take -> taken 2 o1 r1 x1 plain\n", moment, _pid - 1);
                 assert(!freed); in_use = true
             };
             d_step { disassociated = true; printf("%d w%d disassociate -> ok\n", moment, _pid - 1) };
             d_step {
-                save = none; disassociated = false; idle++; ALSO(has_run = true); in_use = false;
+                save = none; disassociated = false; idle++; in_use = false;
                 printf("%d w%d return -> returned - - - - 0 0\n", moment, _pid - 1)
             }
         :: d_step { !PENDING -> idle--; away++; printf("%d w%d detach -> ok\n", moment, _pid - 1) };

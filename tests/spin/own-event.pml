@@ -6,18 +6,10 @@
 
    Left out is what the script doesn't need. There is the default pool alone, whose minimum is 0 and whose maximum is the
    number of workers, so that neither has an effect; one callback; an event that nobody resets, and on which nothing is armed;
-   no clock, no refusal, no want of room.
-
-   With -DALIKE states differ in one thing besides, on which no order hangs, and in which `explore` tells states apart: which
-   worker has run a callback. (`spin -o2` keeps it, though nobody reads it.) */
+   no clock, no refusal, no want of room. */
 
 #ifndef WORKERS
 #define WORKERS 2
-#endif
-#ifdef ALIKE
-#define ALSO(change) change
-#else
-#define ALSO(change) skip
 #endif
 
 /* a callback; none before it is made, and when it is over */
@@ -66,7 +58,6 @@ end_finished:
 
 active [WORKERS] proctype worker()
 {
-    bool has_run;
 end_away:
     do
     /* the pool is in need: something is pending, and nobody is idle */
@@ -74,20 +65,20 @@ end_away:
         do
         /* use ctx takes place with the take, and ends with the return */
         :: d_step {
-                callback == pending -> idle--; callback = running; has_run = false;
+                callback == pending -> idle--; callback = running;
                 printf("0 w%d take -> taken 1 o1 r1 x0 plain\n", _pid - 1);
                 assert(!freed); in_use = true
             };
 #ifdef MENDED
             d_step { printf("0 w%d on-return event 1 1 -> ok\n", _pid - 1) };
             d_step {
-                callback = none; idle++; ALSO(has_run = true); over = true; in_use = false;
+                callback = none; idle++; over = true; in_use = false;
                 printf("0 w%d return -> returned - - - done 0 0\n", _pid - 1)
             }
 #else
             d_step { over = true; printf("0 w%d set-event 1 -> queued 0 0\n", _pid - 1) };
             d_step {
-                callback = none; idle++; ALSO(has_run = true); in_use = false;
+                callback = none; idle++; in_use = false;
                 printf("0 w%d return -> returned - - - - 0 0\n", _pid - 1)
             }
 #endif

@@ -6,18 +6,10 @@
 
    Left out is what the script doesn't need. There is the default pool alone, whose minimum is 0 and whose maximum is the
    number of workers, so that neither has an effect; one callback; a lock that nobody takes twice; no clock, no refusal, no
-   want of room.
-
-   With -DALIKE states differ in two things besides, on which no order hangs, and in which `explore` tells states apart: which
-   of two waits was begun first, and which worker has run a callback. (`spin -o2` keeps them, though nobody reads them.) */
+   want of room. */
 
 #ifndef WORKERS
 #define WORKERS 2
-#endif
-#ifdef ALIKE
-#define ALSO(change) change
-#else
-#define ALSO(change) skip
 #endif
 
 /* the owner of the lock where nobody has it: client 1 never takes it */
@@ -37,8 +29,6 @@ bool callback_acquires;
 mtype c2 = plays;
 /* the wait of client 2 covers the callback */
 bool covered;
-/* of two waits that of the callback was begun first */
-bool callback_first;
 /* workers that are attached and run nothing, and those that are not attached */
 byte idle;
 byte away = WORKERS;
@@ -66,11 +56,11 @@ inline gives_back()
 inline waits_for_work()
 {
     d_step {
-        c2 = waits; covered = (callback != none); ALSO(callback_first = callback_acquires);
+        c2 = waits; covered = (callback != none);
         printf("0 c2 wait work 1 keep -> begun %d 0\n", covered)
     };
     if
-    :: d_step { !C2_LOOKS -> c2 = plays; covered = false; callback_first = false; printf("0 c2 end -> ended\n") }
+    :: d_step { !C2_LOOKS -> c2 = plays; covered = false; printf("0 c2 end -> ended\n") }
     :: d_step { C2_LOOKS && STALLED -> printf("0 c2 end -> stalled\n"); assert(false) }
     fi
 }
@@ -97,26 +87,25 @@ end_finished:
 
 active [WORKERS] proctype worker()
 {
-    bool has_run;
 end_away:
     do
     /* the pool is in need: something is pending, and nobody is idle */
     :: d_step { callback == pending && idle == 0 -> away--; idle++; printf("0 w%d attach -> attached 0\n", _pid - 1) };
         do
         :: d_step {
-                callback == pending -> idle--; callback = running; has_run = false;
+                callback == pending -> idle--; callback = running;
                 printf("0 w%d take -> taken 1 o1 r1 x0 plain\n", _pid - 1)
             };
             d_step { callback_acquires = true; printf("0 w%d acquire 1 -> ok\n", _pid - 1) };
             if
             :: d_step {
-                    !CALLBACK_LOOKS -> callback_acquires = false; callback_first = false; owner = _pid;
+                    !CALLBACK_LOOKS -> callback_acquires = false; owner = _pid;
                     printf("0 w%d end -> ended\n", _pid - 1)
                 }
             :: d_step { CALLBACK_LOOKS && STALLED -> printf("0 w%d end -> stalled\n", _pid - 1); assert(false) }
             fi;
             d_step { owner = FREE; printf("0 w%d release-lock section 1 -> ok\n", _pid - 1) };
-            d_step { callback = none; idle++; ALSO(has_run = true); printf("0 w%d return -> returned - - - - 0 0\n", _pid - 1) }
+            d_step { callback = none; idle++; printf("0 w%d return -> returned - - - - 0 0\n", _pid - 1) }
         :: d_step { callback != pending -> idle--; away++; printf("0 w%d detach -> ok\n", _pid - 1) };
             break
         od

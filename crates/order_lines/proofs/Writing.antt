@@ -7,11 +7,11 @@ use Rattle.breadth_first.specs.declared.Answer.TheVariants.{None as NoneBad, Gav
 use Rattle.recorded.specs.Recordings.{Recording}
 use Rattle.tp_base.specs.declared.answers.Entry.{Entry}
 use Rattle.tp_base.specs.declared.limits.Limits.{Limits}
-use Rattle.tp_explore.specs.Boards.{rules_of}
+use Rattle.tp_explore.specs.Closing.{rules_of_closed}
 use Rattle.tp_explore.specs.Explored.{Explores, IsBad, IsMadeBy, IsMadeFrom, IsShortest}
 use Rattle.tp_explore.specs.Faults.{faults_of}
 use Rattle.tp_explore.specs.declared.fault.Fault.{Fault}
-use Rattle.tp_explore.specs.Keys.{board_code}
+use Rattle.tp_explore.specs.Exchanging.{key_in_order}
 use Rattle.tp_explore.specs.Legal.{IsRoomy}
 use Rattle.tp_explore.specs.Scenes.{first_scene, scene_after, IsOrder, Scene}
 use Rattle.tp_explore.specs.Story.{happened_of, told_of, waiting_of}
@@ -31,7 +31,7 @@ made_length k limits s (by ∷ moves) [] made = absurd made
 made_length k limits s (by ∷ moves) (e ∷ rest) made = omega (arith, made_length k limits (scene_after k.given s e) moves rest made.1)
 
 module _ (k : Watched) (text : List ℕ) (limits : Limits) where
-  pub reason_of : (most states deep : ℕ) → GivesUpFor (rules_of k limits board_code) most DEEPEST (GaveUpAt states deep) → IsReason k limits most deep
+  pub reason_of : (most states deep : ℕ) → GivesUpFor (rules_of_closed k limits (key_in_order limits)) most DEEPEST (GaveUpAt states deep) → IsReason k limits most deep
   reason_of most states deep (inl more) = inl more
   reason_of most states deep (inr as_deep) = inr (inl as_deep)
 

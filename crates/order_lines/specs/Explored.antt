@@ -4,11 +4,11 @@ use Rattle.breadth_first.specs.Answers.{HasMoreKeys}
 use Rattle.breadth_first.specs.declared.Answer.TheVariants.{None as NoneBad, GaveUp as GaveUpAt}
 use Rattle.tp_base.specs.declared.answers.Entry.{Entry}
 use Rattle.tp_base.specs.declared.limits.Limits.{Limits}
-use Rattle.tp_explore.specs.Boards.{rules_of}
+use Rattle.tp_explore.specs.Closing.{rules_of_closed}
 use Rattle.tp_explore.specs.declared.fault.Fault.{Fault}
 use Rattle.tp_explore.specs.Explored.{Explores, IsBad}
 use Rattle.tp_explore.specs.Faults.{faults_of}
-use Rattle.tp_explore.specs.Keys.{board_code}
+use Rattle.tp_explore.specs.Exchanging.{key_in_order}
 use Rattle.tp_explore.specs.Legal.{IsRoomy}
 use Rattle.tp_explore.specs.Scenes.{IsOrder}
 use Rattle.tp_explore.specs.Scripts.{watched}
@@ -101,7 +101,7 @@ pub record HasNoRoom (k : Watched) (limits : Limits) (deep : ℕ) : Type 0 where
 -- why it was given up: more states were met than may be, orders were gone through that are as long as any that are looked at, or
 -- there is no room for a bad one
 abbrev pub IsReason : Watched → Limits → ℕ → ℕ → Type 0
-IsReason k limits most deep = HasMoreKeys (rules_of k limits board_code) most ⊎ (deep ≡ DEEPEST) ⊎ HasNoRoom k limits deep
+IsReason k limits most deep = HasMoreKeys (rules_of_closed k limits (key_in_order limits)) most ⊎ (deep ≡ DEEPEST) ⊎ HasNoRoom k limits deep
 
 pub record WritesNone (k : Watched) (limits : Limits) (output : List ℕ) : Type 0 where
   pub states : ℕ

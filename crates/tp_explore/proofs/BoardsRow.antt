@@ -1,5 +1,5 @@
 -- The actors of a machine in a row, with their places, and the moves of each.
-use Rattle.std.proofs.Common.{◌≡◌, ℕ, zero, suc, ◌+◌, ◌-◌, ◌*◌, ◌/◌, ◌%◌, ◌<◌, ◌≤◌, Bool, true, false, cond, nat_le, ◌||◌, List, [], ◌∷◌, ◌++◌, append_assoc, length, map, slice_get, slice_set, get_or, Contains, Option, Some, None, refl, sym, ap, ◌∙◌, ap₂, subst, length-set, eq-eqb, eqb-true, arith, length-append}
+use Rattle.std.proofs.Common.{◌≡◌, ℕ, zero, suc, ◌+◌, ◌-◌, ◌/◌, ◌%◌, ◌<◌, ◌≤◌, Bool, true, false, cond, nat_le, ◌||◌, List, [], ◌∷◌, ◌++◌, append_assoc, length, map, slice_get, slice_set, get_or, Contains, Option, Some, None, refl, sym, ap, ◌∙◌, ap₂, subst, length-set, eq-eqb, eqb-true, arith, length-append}
 use Rattle.std.specs.List.{range_with_len}
 use Rattle.std.specs.Option.{unwrap_or}
 use Rattle.std.proofs.lemmas.List.{get_or-map, get_or-append_right, get_or-set_same, get_or-set_other, get_or_append_left, length-map, map-append}
@@ -19,7 +19,8 @@ use Rattle.tp_model.specs.World.{World}
 use Rattle.tp_model.specs.Stages.{first_stage, is_over_stage, IsActor}
 use Rattle.part_places.specs.declared.place.Place.{Place}
 use Rattle.part_places.specs.Places.{opening, place_after, Given}
-use Rattle.tp_explore.specs.Boards.{actor_of, actors, call_by, mover, place_at, place_in_row, turn_in, width_of}
+use Rattle.tp_explore.specs.Movers.{mover_acts, within_row}
+use Rattle.tp_explore.specs.Boards.{actors, call_by, mover, place_at, place_in_row, turn_in, width_of}
 use Rattle.tp_explore.specs.Rows.{AreInRow}
 use Rattle.tp_explore.specs.Scenes.{first_scene, freely, has_turn, scene_after, turns_at, turns_in, with_place, IsTurn, Scene}
 
@@ -40,10 +41,6 @@ none_over (who ∷ whos) zero other = fresh who
 none_over (who ∷ whos) (suc i) other = none_over whos i other
 
 module _ (limits : Limits) where
-  pub within_row : (who : Who) → IsActor limits who → place_in_row limits who < limits.clients + limits.workers
-  within_row (Client number) actor = omega (arith, actor)
-  within_row (Worker number) actor = omega (arith, actor)
-
   -- two actors stand in two places
   row_same : (a b : Who) → IsActor limits a → IsActor limits b → place_in_row limits b ≡ place_in_row limits a → is_same_actor a b ≡ true
   row_same (Client m) (Client n) first second is = let same : m ≡ n = omega arith in eq-eqb m n same
@@ -60,7 +57,7 @@ module _ (limits : Limits) where
       known : (b : Bool) → is_same_actor who other ≡ b → place_at limits (slice_set places (place_in_row limits who) p) other ≡ cond b p (place_at limits places other)
       known true is =
           let same : who ≡ other = same_actor who other is in
-          let within : place_in_row limits who < length places = omega (arith, within_row who actor, row) in
+          let within : place_in_row limits who < length places = omega (arith, within_row limits who actor, row) in
           unwrap_or-slice_get (slice_set places (place_in_row limits who) p) (place_in_row limits other) (opening other)
           ∙ ap (λ n. get_or (slice_set places (place_in_row limits who) p) n (opening other)) (ap (place_in_row limits) (sym same))
           ∙ get_or-set_same places (place_in_row limits who) p (opening other) within
@@ -78,7 +75,7 @@ module _ (limits : Limits) where
   first_row : (who : Who) → IsActor limits who → place_at limits (map opening (actors limits)) who ≡ opening who
   first_row who actor =
       unwrap_or-slice_get (map opening (actors limits)) (place_in_row limits who) (opening who)
-      ∙ get_or-map opening (actors limits) (place_in_row limits who) who (opening who) (omega (arith, within_row who actor, sym (length-map (actors limits) opening), first_length))
+      ∙ get_or-map opening (actors limits) (place_in_row limits who) who (opening who) (omega (arith, within_row limits who actor, sym (length-map (actors limits) opening), first_length))
       ∙ ap opening (at_row who actor)
     where
       at_row : (a : Who) → IsActor limits a → get_or (actors limits) (place_in_row limits a) a ≡ a
@@ -90,42 +87,6 @@ module _ (limits : Limits) where
           let count : length (map Client (range_with_len 1 limits.clients)) ≡ limits.clients = length-map (range_with_len 1 limits.clients) Client ∙ length-range_with_len 1 limits.clients in
           get_or-append_right (map Client (range_with_len 1 limits.clients)) (map Worker (range_with_len 1 limits.workers)) limits.clients (limits.clients + (n - 1)) (Worker n) count (omega arith)
           ∙ get_or-map-range_with_len Worker 1 limits.workers (limits.clients + (n - 1) - limits.clients) n (Worker n) (omega arith) (omega arith)
-
-  -- ---- moves
-
-  pub mover_at : (who : Who) (number : ℕ) → IsActor limits who → number < 2 → mover limits (place_in_row limits who * 2 + number) ≡ who
-  mover_at who number actor few = ap (actor_of limits) half ∙ at_row who actor
-    where
-      half : (place_in_row limits who * 2 + number) / 2 + 1 ≡ place_in_row limits who + 1
-      half = omega arith
-
-      at_row : (a : Who) → IsActor limits a → actor_of limits (place_in_row limits a + 1) ≡ a
-      at_row (Client n) is =
-          let same : n - 1 + 1 ≡ n = omega arith in
-          let below : nat_le (n - 1 + 1) limits.clients ≡ true = grind (arith, same) in
-          ap (λ b. cond b (Client (n - 1 + 1)) (Worker (n - 1 + 1 - limits.clients))) below ∙ ap (λ m. Client m) same
-      at_row (Worker n) is =
-          let same : limits.clients + (n - 1) + 1 - limits.clients ≡ n = omega arith in
-          let above : nat_le (limits.clients + (n - 1) + 1) limits.clients ≡ false = grind arith in
-          ap (λ b. cond b (Client (limits.clients + (n - 1) + 1)) (Worker (limits.clients + (n - 1) + 1 - limits.clients))) above ∙ ap (λ m. Worker m) same
-
-  pub second_at : (who : Who) (number : ℕ) → number < 2 → (place_in_row limits who * 2 + number) % 2 ≡ number
-  second_at who number few = omega (arith, few)
-
-  pub within_width : (who : Who) (number : ℕ) → IsActor limits who → number < 2 → place_in_row limits who * 2 + number < width_of limits
-  within_width who number actor few = omega (arith, within_row who actor, few)
-
-  pub mover_acts : (by : ℕ) → by < width_of limits → IsActor limits (mover limits by)
-  mover_acts by within = acts (by / 2 + 1) (omega arith) (omega (arith, within))
-    where
-      acts : (n : ℕ) → 1 ≤ n → n ≤ limits.clients + limits.workers → IsActor limits (actor_of limits n)
-      acts n least most = known (nat_le n limits.clients) refl
-        where
-          known : (b : Bool) → nat_le n limits.clients ≡ b → IsActor limits (cond b (Client n) (Worker (n - limits.clients)))
-          known true is = (least, grind (arith, is))
-          known false is =
-              let above : limits.clients < n = grind (arith, is) in
-              (omega (arith, above), omega (arith, most))
 
 -- an actor has two turns at most
 pub few_turns : (at : Stage) (next : Option Call) → length (turns_in at next) ≤ 2

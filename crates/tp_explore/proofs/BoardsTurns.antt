@@ -18,12 +18,13 @@ use Rattle.tp_model.specs.Table.{plan, plan_at}
 use Rattle.tp_model.proofs.Calls.{plan_forget}
 use Rattle.tp_model.proofs.Entries.{next_number_in}
 use Rattle.part_places.specs.Places.{next_call}
+use Rattle.tp_explore.specs.Movers.{mover_acts, mover_at, second_at, within_width}
 use Rattle.tp_explore.specs.Boards.{after_board, call_by, called, mover, place_in_row, planned, rules_of, scene_of, turn_in, width_of, Board}
 use Rattle.tp_explore.specs.Explored.{IsMove}
 use Rattle.tp_explore.specs.Noted.{Noted}
 use Rattle.tp_explore.specs.Scenes.{ample, turns_at, IsTurn, Scene}
 use Rattle.tp_explore.specs.Watched.{Watched}
-use Rattle.tp_explore.proofs.BoardsRow.{contained, few_turns, mover_acts, mover_at, second_at, turn_told, turns_same, within_width}
+use Rattle.tp_explore.proofs.BoardsRow.{contained, few_turns, turn_told, turns_same}
 use Rattle.tp_explore.proofs.BoardsShown.{planned_comes, Comes, Shows}
 
 module _ (k : Watched) (limits : Limits) (key : Board → List ℕ) where

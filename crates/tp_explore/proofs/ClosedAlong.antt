@@ -34,6 +34,7 @@ use Rattle.renamed_worlds.specs.Renamed.{renamed, renamed_answer, renamed_call, 
 use Rattle.renamed_worlds.proofs.Closing.{closed_again, closed_back}
 use Rattle.renamed_worlds.proofs.Mapped.{filter_map}
 use Rattle.renamed_worlds.proofs.Nameless.{changed_closed, plan_closed, renamed_behind}
+use Rattle.tp_explore.specs.Movers.{mover_acts}
 use Rattle.tp_explore.specs.Boards.{actors, after_board, board_behind, called, first_board, mover, planned, rules_of, scene_of, to_board, turn_in, width_of, Board}
 use Rattle.tp_explore.specs.Closing.{after_closed, closed_board, closed_came, rules_of_closed, IsBlind}
 use Rattle.tp_explore.specs.declared.fault.Fault.{Fault}
@@ -41,7 +42,7 @@ use Rattle.tp_explore.specs.Explored.{Explores}
 use Rattle.tp_explore.specs.Scenes.{ample}
 use Rattle.tp_explore.specs.Watched.{Watched}
 use Rattle.tp_explore.proofs.BoardsAlong.{searches_tell}
-use Rattle.tp_explore.proofs.BoardsRow.{first_in_row, mover_acts}
+use Rattle.tp_explore.proofs.BoardsRow.{first_in_row}
 use Rattle.tp_explore.proofs.ClosedMoves.{first, kept_behind, moved_same, none_first, old, p, turn_named, IsKeptBoard}
 use Rattle.tp_explore.proofs.Closing.{place_none}
 use Rattle.tp_explore.proofs.Issued.{operation_made}

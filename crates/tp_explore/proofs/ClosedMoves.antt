@@ -1,5 +1,5 @@
 -- What comes of a move of a closed board is what comes of it on the board, closed.
-use Rattle.std.proofs.Common.{◌≡◌, ℕ, zero, suc, ◌+◌, ◌-◌, ◌*◌, ◌/◌, ◌<◌, ◌≤◌, ◌==◌, ◌&&◌, ◌||◌, not, Bool, true, false, cond, List, [], ◌∷◌, ◌++◌, length, map, fold, slice_get, slice_set, Option, None, Some, option_map, refl, sym, ap, ap₂, ◌∙◌, ◌⊎◌, inl, inr, filter, length-set, arith}
+use Rattle.std.proofs.Common.{◌≡◌, ℕ, zero, suc, ◌+◌, ◌-◌, ◌<◌, ◌≤◌, ◌==◌, ◌&&◌, ◌||◌, not, Bool, true, false, cond, List, [], ◌∷◌, ◌++◌, length, map, fold, slice_get, slice_set, Option, None, Some, option_map, refl, sym, ap, ap₂, ◌∙◌, ◌⊎◌, inl, inr, filter, length-set, arith}
 use Rattle.std.specs.List.{flat_map, range_with_len}
 use Rattle.std.specs.Option.{unwrap_or}
 use Rattle.std.proofs.lemmas.List.{length-map}
@@ -28,6 +28,7 @@ use Rattle.renamed_worlds.specs.Closed.{closed, number_at, place_of}
 use Rattle.renamed_worlds.specs.Renamed.{renamed_answer, renamed_call, renamed_callback, IsNaming}
 use Rattle.renamed_worlds.proofs.Mapped.{filter_map}
 use Rattle.renamed_worlds.proofs.Places.{at_naming}
+use Rattle.tp_explore.specs.Movers.{actor_at, row_length, within_row}
 use Rattle.tp_explore.specs.Boards.{actor_of, board_behind, moved, place_at, place_in_row, scene_of, to_board, turn_in, Board}
 use Rattle.tp_explore.specs.Closing.{closed_board, closed_came, named_in, named_place, named_row, IsBlind}
 use Rattle.tp_explore.specs.declared.fault.Fault.{Fault}
@@ -37,15 +38,8 @@ use Rattle.tp_explore.specs.Noted.{Noted, without}
 use Rattle.tp_explore.specs.Scenes.{turns_at}
 use Rattle.tp_explore.specs.Watched.{line_in, marks_in, may_refuse_in, Marked, Watched}
 use Rattle.tp_explore.proofs.BlindFaults.{answers_same, create_same, deeds_same, left_same, made_same, notice_same}
-use Rattle.tp_explore.proofs.BoardsRow.{mover_at, within_row}
 use Rattle.tp_explore.proofs.Closing.{agree, names, none_behind, place_none}
-use Rattle.tp_explore.proofs.Naming.{at_same, first_row, named_at, next_below, part_kept, place_next, row_length, row_set, row_twice, set_below, stage_at, stage_same, taken_renamed, turns_named, Agree, AreBelow, at_below, IsPlaceBelow}
-
--- the actor of a place in the row
-pub actor_at : (limits : Limits) (who : Who) → IsActor limits who → actor_of limits (place_in_row limits who + 1) ≡ who
-actor_at limits who actor =
-    let half : place_in_row limits who + 1 ≡ (place_in_row limits who * 2 + 0) / 2 + 1 = omega arith in
-    ap (actor_of limits) half ∙ mover_at limits who 0 actor (omega arith)
+use Rattle.tp_explore.proofs.Naming.{at_same, first_row, named_at, next_below, part_kept, place_next, row_set, row_twice, set_below, stage_at, stage_same, taken_renamed, turns_named, Agree, AreBelow, at_below, IsPlaceBelow}
 
 set_at : {X : Type 0} (xs : List X) (i : ℕ) (x d : X) → i < length xs → unwrap_or (slice_get (slice_set xs i x) i) d ≡ x
 set_at [] i x d less = absurd (omega (arith, less))

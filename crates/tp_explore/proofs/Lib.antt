@@ -9,15 +9,17 @@ pub mod BoardsShown
 pub mod BoardsTurns
 pub mod ClosedAlong
 pub mod ClosedMoves
+pub mod ClosedRow
 pub mod Closing
 pub mod Collected
-pub mod Naming
 mod Examples
 pub mod Freely
 pub mod Issued
 pub mod Leading
 pub mod Legal
+pub mod Naming
 pub mod Passing
+pub mod Rearranged
 pub mod Replaying
 pub mod SameFaults
 pub mod Searched

@@ -1,5 +1,5 @@
 -- Other numbers for in the places of actors.
-use Rattle.std.proofs.Common.{◌≡◌, ℕ, zero, suc, ◌+◌, ◌<◌, ◌≤◌, ◌||◌, ◌&&◌, Bool, true, false, cond, List, [], ◌∷◌, length, map, slice_get, slice_set, replicate, Option, None, Some, option_map, is_some, refl, sym, ap, ap₂, ◌∙◌, ◌⊎◌, inl, inr, arith, subst}
+use Rattle.std.proofs.Common.{◌≡◌, ℕ, zero, suc, ◌+◌, ◌<◌, ◌≤◌, ◌||◌, ◌&&◌, Bool, true, false, cond, List, [], ◌∷◌, map, slice_get, slice_set, replicate, Option, None, Some, option_map, is_some, refl, sym, ap, ap₂, ◌∙◌, ◌⊎◌, inl, inr, arith, subst}
 use Rattle.std.proofs.lemmas.Simd.{map-map}
 use Rattle.std.specs.Option.{unwrap_or}
 use Rattle.tp_base.specs.declared.answers.Answer.{Answer}
@@ -129,10 +129,6 @@ module _ (limits : Limits) where
   stage_at name front i who [] = refl
   stage_at name front zero who (p ∷ places) = refl
   stage_at name front (suc i) who (p ∷ places) = stage_at name (front + 1) i who places
-
-  pub row_length : (name : ℕ → ℕ) (front : ℕ) (places : List Place) → length (named_row limits name front places) ≡ length places
-  row_length name front [] = refl
-  row_length name front (p ∷ places) = ap suc (row_length name (front + 1) places)
 
   pub named_at : (name : ℕ → ℕ) (who : Who) (places : List Place) → name 0 ≡ 0 → actor_of limits (place_in_row limits who + 1) ≡ who → place_at limits (named_row limits name 0 places) who ≡ named_place name who (place_at limits places who)
   named_at name who places none is = row_at name 0 (place_in_row limits who) who places none (ap (actor_of limits) (first_row (place_in_row limits who)) ∙ is)

@@ -24,6 +24,7 @@ use Rattle.tp_model.proofs.Entries.{next_number_in}
 use Rattle.recorded.specs.Recordings.{outcome_behind, recorded, room_of, world_behind, Recording}
 use Rattle.part_places.specs.declared.place.Place.{Place}
 use Rattle.part_places.specs.Places.{opening as opening_place, place_after, Given}
+use Rattle.tp_explore.specs.Movers.{mover_acts}
 use Rattle.tp_explore.specs.Boards.{actors, call_by, mover, place_at, place_in_row, width_of}
 use Rattle.tp_explore.specs.Explored.{IsMadeBy, IsMadeFrom, IsMove}
 use Rattle.tp_explore.specs.Legal.{IsRoomy, IsRoomyFrom}
@@ -32,7 +33,7 @@ use Rattle.tp_explore.specs.Rows.{AreInRow}
 use Rattle.tp_explore.specs.Scenes.{ample, first_scene, freely, scene_after, scene_behind, scene_from, IsOrder, IsOrderFrom, IsTurn, Scene}
 use Rattle.tp_explore.proofs.Alike.{order_append}
 use Rattle.tp_explore.proofs.Ample.{plan_same}
-use Rattle.tp_explore.proofs.BoardsRow.{first_in_row, in_row_behind, mover_acts, mover_within, turn_told, turns_same}
+use Rattle.tp_explore.proofs.BoardsRow.{first_in_row, in_row_behind, mover_within, turn_told, turns_same}
 
 -- ---- what a call comes to where there is room, it freely comes to
 

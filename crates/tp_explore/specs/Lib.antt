@@ -3,12 +3,15 @@ pub mod AreKeys
 pub mod Boards
 pub mod Closing
 pub mod Ended
+pub mod Exchanging
 pub mod Explored
 pub mod Faults
 pub mod Kept
 pub mod Keys
 pub mod Led
 pub mod Legal
+pub mod Like
+pub mod Movers
 pub mod Names
 pub mod Noted
 pub mod Replayed

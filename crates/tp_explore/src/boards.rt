@@ -9,6 +9,8 @@ ghost use Rattle.tp_model.specs.Support.Allowed.{IsAllowed};
 ghost use Rattle.tp_model.specs.Table.{plan_at};
 ghost use Rattle.tp_model.specs.World.{World};
 ghost use Rattle.tp_explore.specs.Boards.{first_board, moved, planned, to_board};
+ghost use Rattle.tp_explore.specs.Closing.{closed_board, closed_came};
+ghost use Rattle.tp_explore.specs.Exchanging.{is_whole, key_in_order, order_in, rearranged_board};
 ghost use Rattle.tp_explore.specs.Keys.{board_code};
 ghost use Rattle.tp_explore.specs.Kept.{board_of};
 ghost use Rattle.tp_explore.specs.Scenes.{ample};
@@ -24,6 +26,7 @@ use crate::passage::Passage;
 use crate::places::{Row, call_by, mover, width};
 use crate::seen::Moving;
 use breadth_first::{Next, System};
+use plain_worlds::order_of;
 use plan_table::plan_of;
 use std::alloc::{AllocError, Global};
 use std::marker::{Model, PhantomData};
@@ -93,6 +96,19 @@ impl<V: Moving> PlainBoard<V> {
         })
     }
 
+    // The board with its names forgotten.
+    fn close(self, alloc: Global, limits: &Limits) -> Result<PlainBoard<V>, AllocError>
+        ensures { IfOk result (λ board. board ≡ closed_board limits.now self) }
+    {
+        self.world.is_reachable();
+        let places = self.places.close(alloc, limits, self.world.callbacks())?;
+        Ok(PlainBoard {
+            world: self.world.close(),
+            places,
+            notes: self.notes,
+        })
+    }
+
     // The board, unless these are faults that it brings.
     fn unless(self, faults: &[Fault]) -> Next<PlainBoard<V>>
         ensures { (k : Watched) (limits : Limits) → result ≡ to_board k limits self faults.now }
@@ -104,15 +120,52 @@ impl<V: Moving> PlainBoard<V> {
         }
     }
 
-    fn key(&self, alloc: Global) -> Result<Vec<u8>, AllocError>
-        ensures { IfOk result (λ key. key.items ≡ board_code self.now) }
+    // Whether it has a row and a place for each actor.
+    fn is_whole(&self, limits: &Limits) -> bool
+        ensures { result ≡ is_whole limits.now self.now }
+    {
+        let actors = limits.clients as usize + limits.workers as usize;
+        limits.clients > 0
+            && self.world.workers().len() == limits.workers as usize
+            && self.places.places().len() == actors
+    }
+
+    // The exchanges that bring its workers in order.
+    fn order(&self, alloc: Global, limits: &Limits) -> Result<Vec<u16>, AllocError>
+        ensures { IfOk result (λ order. order.items ≡ order_in limits.now self.now) }
+    {
+        if self.is_whole(limits) {
+            order_of(alloc, self.world.workers())
+        } else {
+            Ok(Vec::new(alloc))
+        }
+    }
+
+    // The code of the board behind these exchanges.
+    fn code_behind(
+        &self,
+        alloc: Global,
+        limits: &Limits,
+        order: &[u16],
+    ) -> Result<Vec<u8>, AllocError>
+        ensures { IfOk result (λ key. key.items ≡ board_code (rearranged_board limits.now order.now self.now)) }
     {
         let mut text = Vec::new(alloc);
-        self.world.write(&mut text)?;
-        put_places(self.places.places(), &mut text)?;
-        put_notes(&self.notes, &mut text)?;
+        self.world.write_behind(alloc, order, &mut text)?;
+        let places = self.places.rearranged(alloc, limits, order)?;
+        put_places(places.places(), &mut text)?;
+        let notes = self.notes.rearranged(alloc, order)?;
+        put_notes(&notes, &mut text)?;
         // A text that grew has room to spare, and keys are what a search has most of.
         Vec::from_slice(alloc, &text)
+    }
+
+    // The code of the board whose workers are in order.
+    fn key(&self, alloc: Global, limits: &Limits) -> Result<Vec<u8>, AllocError>
+        ensures { IfOk result (λ key. key.items ≡ key_in_order limits.now self.now) }
+    {
+        let order = self.order(alloc, limits)?;
+        self.code_behind(alloc, limits, &order)
     }
 }
 
@@ -211,6 +264,21 @@ impl<'a, V: Moving> Boards<'a, V> {
     }
 }
 
+// What comes of a move, with its names forgotten.
+fn close<V: Moving>(
+    alloc: Global,
+    limits: &Limits,
+    came: Next<PlainBoard<V>>,
+) -> Result<Next<PlainBoard<V>>, AllocError>
+    ensures { IfOk result (λ closed. closed ≡ closed_came limits.now came) }
+{
+    match came {
+        Next::To(board) => Ok(Next::To(board.close(alloc, limits)?)),
+        Next::Bad => Ok(Next::Bad),
+        Next::Nowhere => Ok(Next::Nowhere),
+    }
+}
+
 fn entry(who: Who, call: &Call, answer: Answer) -> Entry
     ensures { result ≡ record { who = who; call = call.now; answer = answer } }
 {
@@ -222,30 +290,30 @@ fn entry(who: Who, call: &Call, answer: Answer) -> Entry
 }
 
 impl<'a, V: Moving> System for Boards<'a, V> {
-    ghost use Rattle.breadth_first.specs.Same.{keeps_itself, same_itself, same_kept, IsSame};
-    ghost use Rattle.tp_explore.specs.Boards.{rules_of};
-    ghost use Rattle.tp_explore.specs.Keys.{board_code};
+    ghost use Rattle.tp_explore.specs.Closing.{rules_of_closed};
+    ghost use Rattle.tp_explore.specs.Exchanging.{key_in_order, AreLike};
+    ghost use Rattle.tp_explore.specs.Like.Keys.{like_kept};
+    ghost use Rattle.tp_explore.specs.Like.Moves.{keeps_like, like_itself};
     ghost use Rattle.tp_explore.specs.Scripts.{watched_but};
-    ghost use Rattle.tp_explore.specs.AreKeys.{board_told};
 
     type State = PlainBoard<V>;
 
-    ghost rules = { λ a. rules_of (watched_but a.passed.now a.script.now) a.limits board_code };
+    ghost rules = { λ a. rules_of_closed (watched_but a.passed.now a.script.now) a.limits (key_in_order a.limits) };
 
-    ghost like = { IsSame };
+    ghost like = { λ a. AreLike a.limits };
 
-    ghost like_itself = { same_itself };
+    ghost like_itself = { λ a. like_itself a.limits };
 
-    ghost like_kept = { same_kept (λ a. rules_of (watched_but a.passed.now a.script.now) a.limits board_code) (λ a. board_told) };
+    ghost like_kept = { λ a. like_kept a.limits };
 
-    ghost keeps = { keeps_itself (λ a. rules_of (watched_but a.passed.now a.script.now) a.limits board_code) };
+    ghost keeps = { λ a. keeps_like (watched_but a.passed.now a.script.now) a.limits (key_in_order a.limits) };
 
     fn width(&self) -> u32 {
         width(&self.limits)
     }
 
     fn first(&self, alloc: Global) -> Result<PlainBoard<V>, AllocError> {
-        PlainBoard::first(alloc, self.limits)
+        PlainBoard::first(alloc, self.limits)?.close(alloc, &self.limits)
     }
 
     fn after(
@@ -255,19 +323,22 @@ impl<'a, V: Moving> System for Boards<'a, V> {
         by: u32,
     ) -> Result<Next<PlainBoard<V>>, AllocError> {
         match call_by(&self.limits, &board.places, self.script, by) {
-            Some(call) => self.called(
-                alloc,
-                &board.world,
-                &board.places,
-                &board.notes,
-                mover(&self.limits, by),
-                &call,
-            ),
+            Some(call) => {
+                let came = self.called(
+                    alloc,
+                    &board.world,
+                    &board.places,
+                    &board.notes,
+                    mover(&self.limits, by),
+                    &call,
+                )?;
+                close(alloc, &self.limits, came)
+            }
             None => Ok(Next::Nowhere),
         }
     }
 
     fn key(&self, alloc: Global, board: &PlainBoard<V>) -> Result<Vec<u8>, AllocError> {
-        board.key(alloc)
+        board.key(alloc, &self.limits)
     }
 }

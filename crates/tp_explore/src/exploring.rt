@@ -3,14 +3,14 @@
 ghost use Rattle.std.specs.Prelude.{◌≤◌, IfOk};
 ghost use Rattle.breadth_first.specs.Answers.{GivesUpFor};
 ghost use Rattle.tp_base.specs.Ranges.{AreLimitsInRange};
-ghost use Rattle.tp_explore.specs.Boards.{rules_of};
+ghost use Rattle.tp_explore.specs.Closing.{rules_of_closed};
+ghost use Rattle.tp_explore.specs.Exchanging.{key_in_order};
 ghost use Rattle.tp_explore.specs.Explored.{Explores};
-ghost use Rattle.tp_explore.specs.Keys.{board_code};
 ghost use Rattle.tp_explore.specs.Scripts.{watched_but};
 
 use crate::boards::Boards;
+use crate::closed_boards_lose_nothing;
 use crate::fault::Fault;
-use crate::searches_tell_of_orders;
 use crate::seen::Moving;
 use breadth_first::{Answer, Measures, search};
 use std::alloc::{AllocError, Global};
@@ -36,9 +36,9 @@ pub fn explore<V: Moving>(
     requires most { 1 ≤ most }
     requires in_range { AreLimitsInRange limits }
     ensures explores { IfOk result (Explores (watched_but passed.now script.now) limits) }
-    ensures gives_up { IfOk result (GivesUpFor (rules_of (watched_but passed.now script.now) limits board_code) most deepest) }
+    ensures gives_up { IfOk result (GivesUpFor (rules_of_closed (watched_but passed.now script.now) limits (key_in_order limits)) most deepest) }
 {
-    searches_tell_of_orders();
+    closed_boards_lose_nothing();
     let boards = Boards::<V>::new(script, passed, limits);
     search(alloc, &boards, most, deepest, measures)
 }

@@ -3,11 +3,16 @@
 
 ghost use Rattle.std.specs.Prelude.{◌≡◌, map, slice_set, IfOk};
 ghost use Rattle.tp_base.specs.Ranges.{AreLimitsInRange};
-ghost use Rattle.part_places.specs.Places.{given, opening, place_after};
+ghost use Rattle.part_places.specs.Places.{given, opening, part_in, place_after};
+ghost use Rattle.renamed_worlds.specs.Closed.{place_of as place_of_number};
 ghost use Rattle.tp_explore.specs.Boards.{actors, place_at, place_in_row};
+ghost use Rattle.tp_explore.specs.Closing.{named_in, named_place, named_row};
+ghost use Rattle.tp_explore.specs.Exchanging.{rearranged_places};
 
-use crate::places::{Row, first_places, place_in_row};
+use crate::passage::part_in;
+use crate::places::{Row, actor_of, first_places, place_in_row};
 use part_places::Place;
+use plain_worlds::{exchange, place_of};
 use std::alloc::{AllocError, Global};
 use std::marker::Model;
 use std::rc::Rc;
@@ -16,7 +21,8 @@ use tp_base::calls::Call;
 use tp_base::ids::Who;
 use tp_base::limits::Limits;
 use tp_base::plans::Stage;
-use tp_script::{Progress, Routines};
+use tp_base::rows::CallbackRow;
+use tp_script::{Part, Progress, Routines};
 
 /// A place, whose names may be those of other places, too.
 #[derive(Drop)]
@@ -80,6 +86,21 @@ impl KeptPlace {
         Ok(KeptPlace::with(locals, operations, place))
     }
 
+    // The place of an actor with its names forgotten: it names callbacks by their places among these.
+    fn close(
+        &self,
+        alloc: Global,
+        who: Who,
+        callbacks: &[CallbackRow],
+    ) -> Result<KeptPlace, AllocError>
+        requires { place_of_number callbacks.now 0 ≡ 0 }
+        ensures { IfOk result (λ kept. kept ≡ named_place (place_of_number callbacks.now) who self.now) }
+    {
+        let mut place = self.place();
+        name_at(&mut place.at, part_in(self.stage, who), callbacks);
+        self.behind(alloc, &place)
+    }
+
     /// It, with its names.
     pub(crate) fn place(&self) -> Place
         ensures { result ≡ self.now }
@@ -112,6 +133,29 @@ fn in_common(
         kept.clone()
     } else {
         Ok(Rc::new(alloc, *numbers)?)
+    }
+}
+
+// Puts the places of callbacks for the numbers of operations that a part knows. Who makes no calls of a part knows nothing.
+fn name_at(at: &mut Progress, part: Option<Part>, callbacks: &[CallbackRow])
+    requires { place_of_number callbacks.now 0 ≡ 0 }
+    ensures { at.new ≡ named_in part (place_of_number callbacks.now) at.old }
+{
+    match part {
+        Some(_) => name_by_place(&mut at.operations, callbacks),
+        None => *at = Progress::first(),
+    }
+}
+
+// Puts the places of callbacks for their numbers.
+fn name_by_place(numbers: &mut [u64], callbacks: &[CallbackRow])
+    requires { place_of_number callbacks.now 0 ≡ 0 }
+    ensures { numbers.new ≡ map (place_of_number callbacks.now) numbers.old }
+{
+    for index in 0..numbers.len() {
+        if numbers[index] != 0 {
+            numbers[index] = place_of(callbacks, numbers[index]);
+        }
     }
 }
 
@@ -197,6 +241,42 @@ impl KeptRow {
         let mut places = Vec::from_clones(alloc, &self.places)?;
         if index < places.len() {
             places[index] = places[index].behind(alloc, place)?;
+        }
+        Ok(KeptRow { places })
+    }
+
+    /// The same with the names forgotten: callbacks are named by their places among these.
+    pub(crate) fn close(
+        &self,
+        alloc: Global,
+        limits: &Limits,
+        callbacks: &[CallbackRow],
+    ) -> Result<KeptRow, AllocError>
+        requires { place_of_number callbacks.now 0 ≡ 0 }
+        ensures { IfOk result (λ row. row ≡ named_row limits.now (place_of_number callbacks.now) 0 self.now) }
+    {
+        let mut places = Vec::with_capacity(alloc, self.places.len())?;
+        let mut number: u32 = 0;
+        for kept in &self.places {
+            // No machine has so many actors.
+            number = number.checked_add(1).ok_or(AllocError)?;
+            places.push(kept.close(alloc, actor_of(limits, number), callbacks)?)?;
+        }
+        Ok(KeptRow { places })
+    }
+
+    /// The same behind these exchanges of neighbouring workers, one after another.
+    pub(crate) fn rearranged(
+        &self,
+        alloc: Global,
+        limits: &Limits,
+        order: &[u16],
+    ) -> Result<KeptRow, AllocError>
+        ensures { IfOk result (λ row. row ≡ rearranged_places limits.now order.now self.now) }
+    {
+        let mut places = Vec::from_clones(alloc, &self.places)?;
+        for at in order {
+            exchange(limits.clients as usize + *at as usize, &mut places);
         }
         Ok(KeptRow { places })
     }

@@ -5,12 +5,14 @@ ghost use Rattle.std.specs.List.{filter, list_any};
 ghost use Rattle.tp_base.specs.Actors.{is_same_actor};
 ghost use Rattle.tp_model.specs.Laws.Entries.{is_among};
 ghost use Rattle.tp_explore.specs.Ended.{ended_by};
+ghost use Rattle.tp_explore.specs.Exchanging.{exchanged_noted, exchanged_uses, rearranged_noted};
 ghost use Rattle.tp_explore.specs.Faults.{behind, dropped, noted_by, used};
 ghost use Rattle.tp_explore.specs.Noted.{is_by, is_in_use, is_of_memory, is_use, nothing_noted, without};
 
 use crate::mark::{Deed, Mark};
 use crate::noted::{Hush, Use};
 use crate::rising::add_rising;
+use plain_worlds::exchanged_who;
 use std::alloc::{AllocError, Global};
 use std::marker::Model;
 use tp_base::ids::Who;
@@ -69,6 +71,26 @@ impl Notes {
             quiet: Vec::from_slice(alloc, &self.quiet)?,
             lines: Vec::from_slice(alloc, &self.lines)?,
         })
+    }
+
+    /// The same behind these exchanges of neighbouring workers, one after another.
+    pub(crate) fn rearranged(&self, alloc: Global, order: &[u16]) -> Result<Notes, AllocError>
+        ensures { IfOk result (λ notes. notes ≡ rearranged_noted order.now self.now) }
+    {
+        let mut notes = self.copy(alloc)?;
+        for at in order {
+            notes.exchange(alloc, *at)?;
+        }
+        Ok(notes)
+    }
+
+    // Two workers change places.
+    fn exchange(&mut self, alloc: Global, at: u16) -> Result<(), AllocError>
+        ensures { OnOk result (self.new ≡ exchanged_noted at self.old) }
+    {
+        self.held = exchanged_uses(alloc, &self.held, at)?;
+        self.leaving = exchanged_uses(alloc, &self.leaving, at)?;
+        Ok(())
     }
 
     /// Whether the memory was freed.
@@ -153,6 +175,21 @@ pub(crate) fn is_same_actor(a: Who, b: Who) -> bool
         (Who::Client(a), Who::Client(b)) | (Who::Worker(a), Who::Worker(b)) => a == b,
         _ => false,
     }
+}
+
+// The uses, where two workers change places.
+fn exchanged_uses(alloc: Global, uses: &[Use], at: u16) -> Result<Vec<Use>, AllocError>
+    ensures { IfOk result (λ exchanged. exchanged.items ≡ exchanged_uses at uses.now) }
+{
+    let mut exchanged = Vec::new(alloc);
+    for begun in uses {
+        let by_other = Use {
+            who: exchanged_who(at, begun.who),
+            memory: begun.memory,
+        };
+        add_rising(&mut exchanged, by_other)?;
+    }
+    Ok(exchanged)
 }
 
 fn is_use(who: Who, memory: u32, begun: &Use) -> bool

@@ -16,8 +16,8 @@ use tp_base::limits::Limits;
 use tp_base::plans::Stage;
 use tp_script::Routines;
 
-// The actor of a number from 1.
-fn actor_of(limits: &Limits, number: u32) -> Who
+/// The actor of a number from 1.
+pub(crate) fn actor_of(limits: &Limits, number: u32) -> Who
     ensures { result ≡ actor_of limits.now number }
 {
     if number <= limits.clients {

@@ -7,7 +7,7 @@ use plain_worlds::PlainWorld;
 use std::alloc::{AllocError, Global};
 use tp_base::limits::Limits;
 use tp_base::plans::Change;
-use tp_base::rows::{CallbackRow, ClientRow};
+use tp_base::rows::{CallbackRow, ClientRow, WorkerRow};
 
 impl Seen for PlainWorld {
     fn callbacks(&self) -> &[CallbackRow] {
@@ -16,6 +16,10 @@ impl Seen for PlainWorld {
 
     fn clients(&self) -> &[ClientRow] {
         PlainWorld::clients(self)
+    }
+
+    fn workers(&self) -> &[WorkerRow] {
+        PlainWorld::workers(self)
     }
 }
 
@@ -36,7 +40,16 @@ impl Moving for PlainWorld {
         PlainWorld::apply(self, alloc, change)
     }
 
-    fn write(&self, text: &mut Vec<u8>) -> Result<(), AllocError> {
-        PlainWorld::write(self, text)
+    fn close(self) -> PlainWorld {
+        PlainWorld::close(self)
+    }
+
+    fn write_behind(
+        &self,
+        alloc: Global,
+        order: &[u16],
+        text: &mut Vec<u8>,
+    ) -> Result<(), AllocError> {
+        PlainWorld::write_in_order(self, alloc, order, text)
     }
 }

@@ -1,7 +1,9 @@
 //! Worlds, as who goes through orders needs them.
 
-ghost use Rattle.std.specs.Prelude.{◌≡◌, ◌+◌, ◌++◌, IfOk, OnOk};
+ghost use Rattle.std.specs.Prelude.{◌≡◌, ◌+◌, ◌++◌, length, IfOk, OnOk};
 ghost use Rattle.short_codes.specs.Codes.{number};
+ghost use Rattle.renamed_worlds.specs.Closed.{closed};
+ghost use Rattle.renamed_worlds.specs.Ordered.{rearranged};
 ghost use Rattle.row_codes.specs.Worlds.{world_code};
 ghost use Rattle.tp_base.specs.Ranges.{AreLimitsInRange};
 ghost use Rattle.tp_model.specs.Changes.{changed};
@@ -12,7 +14,7 @@ ghost use Rattle.tp_model.specs.World.{opening};
 use std::alloc::{AllocError, Global};
 use tp_base::limits::Limits;
 use tp_base::plans::Change;
-use tp_base::rows::{CallbackRow, ClientRow};
+use tp_base::rows::{CallbackRow, ClientRow, WorkerRow};
 use world_reads::Reads;
 
 /// A world whose callbacks and clients can be gone through.
@@ -24,6 +26,10 @@ pub trait Seen: Reads {
     /// Its clients.
     fn clients(&self) -> &[ClientRow]
         ensures { result.now ≡ (Self.world_of self.now).clients };
+
+    /// Its workers.
+    fn workers(&self) -> &[WorkerRow]
+        ensures { result.now ≡ (Self.world_of self.now).workers };
 }
 
 /// A world that begins, is copied, goes on and is told apart from others.
@@ -49,7 +55,18 @@ pub trait Moving: Seen + Drop {
         ensures world { IfOk result (λ next. Self.world_of next ≡ forget (changed (Self.world_of self) change.now)) }
         ensures made { IfOk result (λ next. Self.made_of next ≡ Self.made_of self + news change.now) };
 
-    /// Appends a text that tells it apart from all others. After an `Err` some of it may be there.
-    fn write(&self, text: &mut Vec<u8>) -> Result<(), AllocError>
-        ensures { OnOk result (text.new.items ≡ text.old.items ++ world_code (Self.world_of self.now) ++ number (Self.made_of self.now)) };
+    /// The same world with its names forgotten: its callbacks are named by their places, and it made no others.
+    fn close(self) -> Self
+        ensures world { Self.world_of result ≡ closed (Self.world_of self) }
+        ensures made { Self.made_of result ≡ length (forget (Self.world_of self)).callbacks };
+
+    /// Appends a text that tells apart from all others the world behind these exchanges of neighbouring workers, one after
+    /// another: at a place from 0 the worker there and the next one change places. After an `Err` some of it may be there.
+    fn write_behind(
+        &self,
+        alloc: Global,
+        order: &[u16],
+        text: &mut Vec<u8>,
+    ) -> Result<(), AllocError>
+        ensures { OnOk result (text.new.items ≡ text.old.items ++ world_code (rearranged order.now (Self.world_of self.now)) ++ number (Self.made_of self.now)) };
 }
